@@ -1,0 +1,256 @@
+//! What all comparisons share: random numbers, lists of boundary values, and
+//! the check that holds our answer to the Rust's.
+
+use crate::capi::{NAN_F32, NAN_F64};
+
+/// A run: its settings, and how many checks have passed.
+pub struct Run {
+    pub seed: u64,
+    pub scale: u64,
+    pub only: Option<String>,
+    pub passed: u64,
+}
+
+impl Run {
+    /// Runs one check, unless `--only` asks for others. Its random numbers
+    /// follow from seed and name alone, so that it can be repeated by itself.
+    pub fn check(&mut self, name: &'static str, body: impl FnOnce(&mut Check)) {
+        if self
+            .only
+            .as_ref()
+            .is_some_and(|only| !name.contains(only.as_str()))
+        {
+            return;
+        }
+        let mut rng = Rng(self.seed);
+        for byte in name.bytes() {
+            rng = Rng(rng.next() ^ u64::from(byte));
+        }
+        let mut check = Check {
+            name,
+            inputs: 0,
+            scale: self.scale,
+            rng,
+        };
+        body(&mut check);
+        println!("{name}: {} inputs, 0 differences", check.inputs);
+        self.passed += 1;
+    }
+}
+
+/// One function under comparison.
+pub struct Check {
+    name: &'static str,
+    inputs: u64,
+    scale: u64,
+    pub rng: Rng,
+}
+
+impl Check {
+    /// `count` at the gate's size, more with `--scale`.
+    pub fn times(&self, count: u64) -> std::ops::Range<u64> {
+        0..count * self.scale
+    }
+
+    /// Counts one input; ends the run at a difference.
+    #[inline(always)]
+    pub fn same(&mut self, input: &[u64], ours: &[u64], rust: &[u64]) {
+        self.inputs += 1;
+        if ours != rust {
+            self.differs(input, ours, rust);
+        }
+    }
+
+    #[cold]
+    #[inline(never)]
+    fn differs(&self, input: &[u64], ours: &[u64], rust: &[u64]) -> ! {
+        println!("{}: differs at input {}", self.name, self.inputs);
+        for (what, words) in [("input", input), ("ours", ours), ("Rust", rust)] {
+            let words: Vec<String> = words.iter().map(|w| format!("{w:#x}")).collect();
+            println!("  {what:5} {}", words.join(" "));
+        }
+        std::process::exit(1);
+    }
+}
+
+/// The word that the C interface gives for `x`.
+#[inline]
+pub fn word32(x: f32) -> u64 {
+    u64::from(if x.is_nan() { NAN_F32 } else { x.to_bits() })
+}
+
+/// The word that the C interface gives for `x`.
+#[inline]
+pub fn word64(x: f64) -> u64 {
+    if x.is_nan() { NAN_F64 } else { x.to_bits() }
+}
+
+/// splitmix64
+pub struct Rng(pub u64);
+
+impl Rng {
+    #[inline]
+    pub fn next(&mut self) -> u64 {
+        self.0 = self.0.wrapping_add(0x9E37_79B9_7F4A_7C15);
+        let mut z = self.0;
+        z = (z ^ (z >> 30)).wrapping_mul(0xBF58_476D_1CE4_E5B9);
+        z = (z ^ (z >> 27)).wrapping_mul(0x94D0_49BB_1331_11EB);
+        z ^ (z >> 31)
+    }
+
+    /// 0 to n - 1.
+    #[inline]
+    pub fn below(&mut self, n: u64) -> u64 {
+        ((u128::from(self.next()) * u128::from(n)) >> 64) as u64
+    }
+
+    /// A number of 0 to `bits` bits, each length as likely as another.
+    #[inline]
+    pub fn sized(&mut self, bits: u32) -> u64 {
+        match self.below(u64::from(bits) + 1) {
+            0 => 0,
+            length => self.next() >> (64 - length) | 1 << (length - 1),
+        }
+    }
+
+    /// One of `list`.
+    #[inline]
+    pub fn pick<T: Copy>(&mut self, list: &[T]) -> T {
+        list[self.below(list.len() as u64) as usize]
+    }
+
+    /// 0.0 to 1.0.
+    #[inline]
+    pub fn unit(&mut self) -> f64 {
+        self.next() as f64 / u64::MAX as f64
+    }
+
+    /// A word of an f32: any bits, a number of common size, or a whole one.
+    #[inline]
+    pub fn float32(&mut self) -> u32 {
+        match self.below(4) {
+            0 => ((self.unit() * 4.0 - 2.0) as f32).to_bits(),
+            1 => (self.sized(28) as f32).to_bits(),
+            _ => self.next() as u32,
+        }
+    }
+
+    /// A word of an f64, likewise.
+    #[inline]
+    pub fn float64(&mut self) -> u64 {
+        match self.below(4) {
+            0 => (self.unit() * 4.0 - 2.0).to_bits(),
+            1 => (self.sized(58) as f64).to_bits(),
+            _ => self.next(),
+        }
+    }
+
+    /// A word up to 4 places from `word`, which is that of the next floats.
+    #[inline]
+    pub fn near32(&mut self, word: u32) -> u32 {
+        word.wrapping_add(self.below(9) as u32).wrapping_sub(4)
+    }
+
+    /// Likewise.
+    #[inline]
+    pub fn near64(&mut self, word: u64) -> u64 {
+        word.wrapping_add(self.below(9)).wrapping_sub(4)
+    }
+}
+
+/// Each word with its neighbours, with and without the sign.
+fn around32(words: impl IntoIterator<Item = u32>) -> Vec<u32> {
+    let near = |w: u32| [w.wrapping_sub(1), w, w.wrapping_add(1)];
+    let signed = |w: u32| [w & 0x7FFF_FFFF, w | 0x8000_0000];
+    sorted(words.into_iter().flat_map(near).flat_map(signed))
+}
+
+/// Likewise.
+fn around64(words: impl IntoIterator<Item = u64>) -> Vec<u64> {
+    let near = |w: u64| [w.wrapping_sub(1), w, w.wrapping_add(1)];
+    let signed = |w: u64| [w & !(1 << 63), w | 1 << 63];
+    sorted(words.into_iter().flat_map(near).flat_map(signed))
+}
+
+fn sorted<T: Ord>(words: impl Iterator<Item = T>) -> Vec<T> {
+    let mut list: Vec<T> = words.collect();
+    list.sort_unstable();
+    list.dedup();
+    list
+}
+
+/// Zero, the ends of the subnormal, normal and NaN words, 1, 1000, a rate and
+/// the constants of the reference, with their neighbours and both signs.
+pub fn few32() -> Vec<u32> {
+    let words = [
+        0,
+        0x007F_FFFF,
+        0x7F80_0000,
+        0x7FC0_0000,
+        0x7FFF_FFFE,
+        0x7FA5_5A5A,
+    ];
+    let numbers = [
+        1e-6_f32,
+        1e-3,
+        0.15,
+        0.5,
+        0.8,
+        1.0,
+        1.25,
+        2.0,
+        62.5,
+        1000.0,
+        16_777_216.0,
+    ];
+    around32(words.into_iter().chain(numbers.map(f32::to_bits)))
+}
+
+/// Likewise.
+pub fn few64() -> Vec<u64> {
+    let words = [
+        0,
+        (1 << 52) - 1,
+        0x7FF << 52,
+        NAN_F64,
+        i64::MAX as u64 - 1,
+        0x7FF5_5A5A << 32,
+    ];
+    let numbers = [
+        1e-6_f64,
+        0.5,
+        1.0,
+        2.0,
+        64.0,
+        4095.0,
+        9_007_199_254_740_992.0,
+    ];
+    around64(words.into_iter().chain(numbers.map(f64::to_bits)))
+}
+
+/// `few32` and every power of two with its neighbours, both signs.
+pub fn many32() -> Vec<u32> {
+    let subnormal = (0..23).map(|k| 1 << k);
+    let normal = (1..=255).map(|k| k << 23);
+    sorted(around32(subnormal.chain(normal)).into_iter().chain(few32()))
+}
+
+/// Likewise.
+pub fn many64() -> Vec<u64> {
+    let subnormal = (0..52).map(|k| 1 << k);
+    let normal = (1..=2047).map(|k| k << 52);
+    sorted(around64(subnormal.chain(normal)).into_iter().chain(few64()))
+}
+
+/// Zero and every power of two of at most `bits` bits, each with neighbours.
+pub fn whole(bits: u32) -> Vec<u64> {
+    let powers = (0..bits).map(|k| 1_u64 << k);
+    let top = if bits == 64 {
+        u64::MAX
+    } else {
+        (1 << bits) - 1
+    };
+    let near = |n: u64| [n.wrapping_sub(1), n, n.wrapping_add(1)];
+    let within = |n: &u64| *n <= top;
+    sorted(powers.chain([0, top]).flat_map(near).filter(within))
+}

@@ -1,0 +1,57 @@
+//! Runs the proved library beside the unchanged Rust on the same inputs.
+//!
+//! `compare [--seed S] [--scale N] [--only NAME]` compares: one line a check,
+//! and an end with status 1 at the first difference. `--scale` multiplies the
+//! random inputs; `--only` runs the checks whose name contains NAME.
+//! `compare --bench [--only NAME]` measures both sides instead.
+
+mod bench;
+mod capi;
+mod floats;
+mod harness;
+mod matching;
+
+use harness::Run;
+
+fn usage() -> ! {
+    eprintln!("usage: compare [--seed S] [--scale N] [--only NAME] [--bench]");
+    std::process::exit(2);
+}
+
+fn main() {
+    let mut run = Run {
+        seed: 1,
+        scale: 1,
+        only: None,
+        passed: 0,
+    };
+    let mut measure = false;
+    let mut words = std::env::args().skip(1);
+    while let Some(word) = words.next() {
+        let mut number = || {
+            words
+                .next()
+                .and_then(|w| w.parse().ok())
+                .unwrap_or_else(|| usage())
+        };
+        match word.as_str() {
+            "--seed" => run.seed = number(),
+            "--scale" => run.scale = number(),
+            "--only" => run.only = Some(words.next().unwrap_or_else(|| usage())),
+            "--bench" => measure = true,
+            _ => usage(),
+        }
+    }
+    if measure {
+        bench::run(run.only.as_deref());
+        return;
+    }
+    println!("compare: seed {}, scale {}", run.seed, run.scale);
+    floats::run(&mut run);
+    matching::run(&mut run);
+    if run.passed == 0 {
+        eprintln!("compare: no check has that name");
+        std::process::exit(2);
+    }
+    println!("compare: {} checks passed", run.passed);
+}

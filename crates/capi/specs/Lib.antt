@@ -1,0 +1,2 @@
+-- How the C interface writes what the library yields.
+pub mod Codes

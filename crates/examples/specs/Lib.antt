@@ -1,0 +1,2 @@
+-- The table of fixed examples.
+pub mod Table

@@ -1,0 +1,10 @@
+pub mod Round
+pub mod Table
+pub mod Cut
+pub mod Exactly
+pub mod Away
+pub mod Narrow
+pub mod Numbers
+pub mod Patterns
+pub mod Signs
+pub mod Order

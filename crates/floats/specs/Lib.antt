@@ -1,0 +1,3 @@
+-- What the float operations mean, in the kit's account of IEEE 754.
+pub mod Rounding
+pub mod Selection

@@ -1,0 +1,180 @@
+// The float operations of Rust's core that `matching` and the indexes use and that the language
+// lacks. Each contract is an equation with a term of `lib.Ieee` or with a definition of `specs/`.
+ghost use mathlib.Core.Path.{_≡_};
+ghost use mathlib.Core.Bool.{false};
+ghost use Prim.Native.Nat.{_≤_, _<_, _^_};
+ghost use lib.IntN.{pos, negsuc};
+ghost use lib.Dec.{T};
+ghost use lib.Ieee as Ieee;
+ghost use lib.Ieee.{fin, binary32, binary64};
+ghost use lib.Ieee.Nearest.{closest};
+ghost use lib.Ieee.Positive.{positive, num, den};
+ghost use Rattle.floats.specs.Rounding as Rounding;
+ghost use Rattle.floats.specs.Selection as Selection;
+
+// 2^k as an `f32`, by its exponent field.
+fn power_of_two(k: u32) -> f32
+    requires { ⌜ k ≤ 63 ⌝ }
+    ensures { λ r. ⌜ r ≡ fin false 1 (pos k) ⌝ }
+{
+    f32::from_bits((k + 127) << 23)
+}
+
+// n / 2^cut to the nearest whole number, ties to even, by the remainder that is cut off.
+fn nearest_part(n: u64, cut: u32) -> u64
+    requires { ⌜ (0 < cut) × (cut ≤ 40) ⌝ }
+    ensures { λ r. ⌜ r ≡ closest n (2 ^ cut) ⌝ }
+{
+    let unit: u64 = 1 << cut;
+    let kept: u64 = n >> cut;
+    let twice: u64 = (n & (unit - 1)) * 2;
+    if twice < unit {
+        return kept;
+    }
+    if twice > unit {
+        return kept + 1;
+    }
+    kept + kept % 2
+}
+
+// Rust's `n as f32`: the nearest `f32`, ties to even. The count of leading zeros says how many of
+// n's digits an `f32` has no room for. Those are cut off, and the power of two is put back exactly.
+pub fn u64_to_f32(n: u64) -> f32
+    ensures { λ r. ⌜ r ≡ Ieee.ofInt binary32 (pos n) ⌝ }
+{
+    let zeros: u32 = u64::leading_zeros(n);
+    if zeros >= 40 {
+        return n as f32;
+    }
+    let cut: u32 = 40 - zeros;
+    (nearest_part(n, cut) as f32) * power_of_two(cut)
+}
+
+// x to the nearest whole number, halves up. Doubling is exact, and the whole part of 2x says both
+// the whole part of x and whether a half is left.
+fn half_up(x: f64) -> u64
+    requires { ⌜ T (positive x) ⌝ ∗ ⌜ T (Ieee.lt x (fin false 1 (pos 63))) ⌝ }
+    ensures { λ r. ⌜ r ≡ Rounding.halfUp (num x) (den x) ⌝ }
+{
+    let twice: u64 = std::num::truncating_f64_to_u64(x * 2.0);
+    twice / 2 + twice % 2
+}
+
+// Rust's `x.round() as i64`: halves away from zero, held to the range, 0 for a NaN.
+pub fn round_to_i64(x: f64) -> i64
+    ensures { λ r. ⌜ r ≡ Rounding.roundToI64 x ⌝ }
+{
+    if x >= 9223372036854775808.0 {
+        return 9223372036854775807;
+    }
+    if x <= -9223372036854775808.0 {
+        return -9223372036854775808;
+    }
+    if x > 0.0 {
+        return half_up(x) as i64;
+    }
+    if x < 0.0 {
+        return 0 - (half_up(-x) as i64);
+    }
+    0
+}
+
+// Rust's `x as f32` in 0.5 .. 2: the nearest `f32`, ties to even. x * 2^53 is a whole number, so the
+// rounding is that of `u64_to_f32`, and the power of two is taken off exactly.
+pub fn f64_to_f32(x: f64) -> f32
+    requires { ⌜ T (Ieee.le (fin false 1 (negsuc 0)) x) ⌝ ∗ ⌜ T (Ieee.le x (fin false 1 (pos 1))) ⌝ }
+    ensures { λ r. ⌜ r ≡ Rounding.narrow x ⌝ }
+{
+    let whole: u64 = std::num::truncating_f64_to_u64(x * 9007199254740992.0);
+    u64_to_f32(whole) * 1.1102230246251565e-16
+}
+
+// Rust's `a.max(b)`: a NaN gives way to the other.
+pub fn max_f32(a: f32, b: f32) -> f32
+    ensures { λ r. ⌜ r ≡ Selection.maximum a b ⌝ }
+{
+    if a != a {
+        return b;
+    }
+    if a < b { b } else { a }
+}
+
+// Rust's `x.abs()`.
+pub fn abs_f32(x: f32) -> f32
+    ensures { λ r. ⌜ r ≡ Selection.abs x ⌝ }
+{
+    if x == 0.0 {
+        return 0.0;
+    }
+    if x < 0.0 { -x } else { x }
+}
+
+// The same of an `f64`.
+pub fn abs_f64(x: f64) -> f64
+    ensures { λ r. ⌜ r ≡ Selection.abs x ⌝ }
+{
+    if x == 0.0 {
+        return 0.0;
+    }
+    if x < 0.0 { -x } else { x }
+}
+
+// Rust's `x.clamp(lo, hi)`, for lo at most hi: a NaN stays.
+pub fn clamp_f32(x: f32, lo: f32, hi: f32) -> f32
+    ensures { λ r. ⌜ r ≡ Selection.clamp lo hi x ⌝ }
+{
+    if x < lo {
+        return lo;
+    }
+    if x > hi { hi } else { x }
+}
+
+// The same of an `f64`.
+pub fn clamp_f64(x: f64, lo: f64, hi: f64) -> f64
+    ensures { λ r. ⌜ r ≡ Selection.clamp lo hi x ⌝ }
+{
+    if x < lo {
+        return lo;
+    }
+    if x > hi { hi } else { x }
+}
+
+// The float of a bit pattern, every NaN's pattern included.
+pub fn f32_from_bits(word: u32) -> f32
+    ensures { λ r. ⌜ r ≡ Ieee.ofBits binary32 word ⌝ }
+{
+    if word % 0x8000_0000 > 0x7F80_0000 {
+        return 0.0 / 0.0;
+    }
+    f32::from_bits(word)
+}
+
+// The same of an `f64`.
+pub fn f64_from_bits(word: u64) -> f64
+    ensures { λ r. ⌜ r ≡ Ieee.ofBits binary64 word ⌝ }
+{
+    if word % 0x8000_0000_0000_0000 > 0x7FF0_0000_0000_0000 {
+        return 0.0 / 0.0;
+    }
+    f64::from_bits(word)
+}
+
+// The bit pattern of a float: of a NaN 7FC00000, hexadecimal.
+pub fn f32_to_bits(x: f32) -> u32
+    ensures { λ r. ⌜ r ≡ Ieee.toBits binary32 x ⌝ }
+{
+    if x != x {
+        return 0x7FC0_0000;
+    }
+    f32::to_bits(x)
+}
+
+// The same of an `f64`: of a NaN 7FF8000000000000, hexadecimal.
+pub fn f64_to_bits(x: f64) -> u64
+    ensures { λ r. ⌜ r ≡ Ieee.toBits binary64 x ⌝ }
+{
+    if x != x {
+        return 0x7FF8_0000_0000_0000;
+    }
+    f64::to_bits(x)
+}
