@@ -35,7 +35,7 @@ fn word_of(x: i64) -> u64
 pub extern "C" fn floats_u64_to_f32(n: u64) -> u32
     ensures { λ r. ⌜ r ≡ toBits binary32 (ofInt binary32 (pos n)) ⌝ }
 {
-    floats::f32_to_bits(floats::u64_to_f32(n))
+    f32::to_bits(floats::u64_to_f32(n))
 }
 
 // A NaN's pattern for an x outside 0.5 .. 2.

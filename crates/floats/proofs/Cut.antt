@@ -1,14 +1,17 @@
 -- The number arithmetic of `nearest_part` and `u64_to_f32`: a number cut by k digits, and the count of leading zeros. Nothing here is about floats. Assumes nothing.
 use mathlib.Core.Path.{_≡_, refl, sym, ap, _∙_, subst}
+use mathlib.Core.Logic.{inl, inr}
 use mathlib.Core.Bool.{not}
-use Prim.Native.Nat.{ℕ, suc, _+_, _-_, _*_, _/_, _%_, _^_, _≤_, _<_, compare, Ordering, Ordering·lt, Ordering·eq, Ordering·gt}
-use native.Mathlib.Nat.{lt-of-lt-of-le, lt-irrefl, not-le-of-lt, le-of-lt, one-mul, mod-lt, pow-succ'}
+use Prim.Native.Nat.{ℕ, zero, suc, _+_, _-_, _*_, _/_, _%_, _^_, _≤_, _<_, compare, Ordering, Ordering·lt, Ordering·eq, Ordering·gt}
+use native.Mathlib.Nat.{lt-of-lt-of-le, lt-of-le-of-lt, div-le-self, lt-irrefl, not-le-of-lt, le-of-lt, one-mul, mod-lt, pow-succ', zero-lt-suc, eq-or-lt-of-le, div-eq-of-lt, le-div-iff-mul-le, div-lt-iff-lt-mul}
 use native.Mathlib.Omega.{arith}
-use lib.Dec.{T, isLe, isEq, eqb, leb→le, nleb→lt, eqb→eq, eqb-refl, lit<}
+use lib.Dec.{T, ltb, isLe, isEq, eqb, leb→le, nleb→lt, eqb→eq, eqb-refl, lit<}
 use lib.Pow.{pow-pos, pow-mono, shl-exact, shr-lt}
 use lib.Bits.{bitAnd, and-mask}
 use lib.Count.{leadingZeros, leading-length}
 use lib.Ieee.{nearest}
+use borrow.Author.Tests.{ltb-true, ltb-false}
+use Rattle.floats.proofs.Order.{test}
 
 -- ---- the three ways of `nearest`, by the two numbers that `compare` compares
 
@@ -40,9 +43,43 @@ module _ (q a b : ℕ) where
       go Ordering·eq l = refl
       go Ordering·gt l = absurd l
 
+-- ---- the carry of the remainder r, one less than half of u = 2h, and one where q is odd
+
+carry-one : (x u : ℕ) → 0 < u → u ≤ x → x < 2 * u → x / u ≡ 1
+carry-one x u U h g = both (x / u) (le-div-iff-mul-le U .1 (subst (λ (y : ℕ). y ≤ x) (sym (one-mul u)) h)) (div-lt-iff-lt-mul U .1 g)
+  where
+    both : (a : ℕ) → 1 ≤ a → a < 2 → a ≡ 1
+    both a h g = omega arith
+
+module _ (q r u h : ℕ) (double : u ≡ 2 * h) (some : 0 < h) (under : r < u) where
+  below-half : r * 2 < u → q + (r + (u / 2 - 1) + q % 2) / u ≡ q
+  below-half l = ap (λ (x : ℕ). q + x) (div-eq-of-lt (omega arith)) ∙ plus q
+    where
+      plus : (q : ℕ) → q + 0 ≡ q
+      plus q = omega arith
+
+  above-half : u < r * 2 → q + (r + (u / 2 - 1) + q % 2) / u ≡ q + 1
+  above-half l = ap (λ (x : ℕ). q + x) (carry-one (r + (u / 2 - 1) + q % 2) u (omega arith) (omega arith) (omega arith))
+
+  at-half : r * 2 ≡ u → q + (r + (u / 2 - 1) + q % 2) / u ≡ q + q % 2
+  at-half e = ap (λ (x : ℕ). q + x) (by-parity (q % 2) (mod-lt q (zero-lt-suc 1)))
+    where
+      by-parity : (b : ℕ) → b < 2 → (r + (u / 2 - 1) + b) / u ≡ b
+      by-parity zero l = div-eq-of-lt (omega arith)
+      by-parity (suc zero) l = carry-one (r + (u / 2 - 1) + 1) u (omega arith) (omega arith) (omega arith)
+      by-parity (suc (suc b)) l = absurd (omega arith)
+
+  rounded : q + (r + (u / 2 - 1) + q % 2) / u ≡ nearest q (compare (r * 2) u)
+  rounded = test (ltb (r * 2) u)
+      (λ e. let l = ltb-true (r * 2) u e in below-half l ∙ sym (nearest-below q (r * 2) u l))
+      (λ e. elim (eq-or-lt-of-le (ltb-false (r * 2) u e)) [
+        | inl d ↦ at-half (sym d) ∙ sym (nearest-level q (r * 2) u (sym d))
+        | inr l ↦ above-half l ∙ sym (nearest-above q (r * 2) u l)
+      ])
+
 -- ---- as the machine has it: the unit by a shift, and what is cut off by a mask
 
-abbrev unit : ℕ → ℕ
+abbrev pub unit : ℕ → ℕ
 unit k = 1 * 2 ^ k % 2 ^ 64
 
 module _ (n k : ℕ) (some : 0 < k) (few : k ≤ 40) where
@@ -76,17 +113,30 @@ module _ (n k : ℕ) (some : 0 < k) (few : k ≤ 40) where
   abbrev Nearest : ℕ → Type 0
   Nearest r = r ≡ nearest (n / 2 ^ k) (compare (n % 2 ^ k * 2) (2 ^ k))
 
-  pub cut-below : bitAnd n (unit k - 1) * 2 < unit k → Nearest (n / 2 ^ k)
-  cut-below h = sym (nearest-below (n / 2 ^ k) (n % 2 ^ k * 2) (2 ^ k) (subst (λ (x : ℕ). x * 2 < 2 ^ k) rest-is (subst (λ (x : ℕ). bitAnd n (unit k - 1) * 2 < x) unit-is h)))
-
-  pub cut-above : unit k < bitAnd n (unit k - 1) * 2 → Nearest (n / 2 ^ k + 1)
-  cut-above h = sym (nearest-above (n / 2 ^ k) (n % 2 ^ k * 2) (2 ^ k) (subst (λ (x : ℕ). 2 ^ k < x * 2) rest-is (subst (λ (x : ℕ). x < bitAnd n (unit k - 1) * 2) unit-is h)))
-
-  pub cut-level : unit k ≤ bitAnd n (unit k - 1) * 2 → bitAnd n (unit k - 1) * 2 ≤ unit k → Nearest (n / 2 ^ k + n / 2 ^ k % 2)
-  cut-level g h = sym (nearest-level (n / 2 ^ k) (n % 2 ^ k * 2) (2 ^ k) (sym (ap (λ (x : ℕ). x * 2) rest-is) ∙ both (bitAnd n (unit k - 1) * 2) (unit k) h g ∙ unit-is))
+  pub sum-fits : bitAnd n (unit k - 1) + (unit k / 2 - 1) + n / 2 ^ k % 2 < 2 ^ 63
+  sum-fits = bound (bitAnd n (unit k - 1)) (unit k) (n / 2 ^ k) (subst (λ (x : ℕ). x < 2 ^ 40) (sym rest-is) (lt-of-lt-of-le (mod-lt n (pow-pos k)) (pow-mono few))) (subst (λ (x : ℕ). x ≤ 2 ^ 40) (sym unit-is) (pow-mono few))
     where
-      both : (a b : ℕ) → a ≤ b → b ≤ a → a ≡ b
-      both a b h g = omega arith
+      bound : (r u q : ℕ) → r < 2 ^ 40 → u ≤ 2 ^ 40 → r + (u / 2 - 1) + q % 2 < 2 ^ 63
+      bound r u q h g = omega arith
+
+  pub carry-fits : (bitAnd n (unit k - 1) + (unit k / 2 - 1) + n / 2 ^ k % 2) / 2 ^ k < 2 ^ 63
+  carry-fits = lt-of-le-of-lt (div-le-self (bitAnd n (unit k - 1) + (unit k / 2 - 1) + n / 2 ^ k % 2) (2 ^ k)) sum-fits
+
+  pub half-pos : 1 ≤ unit k / 2
+  half-pos = some-half (unit k) (subst (λ (x : ℕ). 2 ≤ x) (sym unit-is) (pow-mono some))
+    where
+      some-half : (u : ℕ) → 2 ≤ u → 1 ≤ u / 2
+      some-half u h = omega arith
+
+  pub cut-is : n / 2 ^ k + (bitAnd n (unit k - 1) + (unit k / 2 - 1) + n / 2 ^ k % 2) / 2 ^ k ≡ nearest (n / 2 ^ k) (compare (n % 2 ^ k * 2) (2 ^ k))
+  cut-is = rw (rest-is, unit-is) (rounded (n / 2 ^ k) (n % 2 ^ k) (2 ^ k) (2 ^ (k - 1)) (twice k some) (pow-pos (k - 1)) (mod-lt n (pow-pos k)))
+    where
+      twice : (k : ℕ) → 0 < k → 2 ^ k ≡ 2 * 2 ^ (k - 1)
+      twice zero h = absurd (lt-irrefl 0 h)
+      twice (suc j) h = pow-succ' 2 j ∙ ap (λ (x : ℕ). 2 * 2 ^ x) (back j)
+        where
+          back : (j : ℕ) → j ≡ suc j - 1
+          back j = omega arith
 
 -- ---- the count of leading zeros of a u64
 

@@ -1,6 +1,6 @@
 pub mod Round
-pub mod Table
 pub mod Cut
+pub mod Assembled
 pub mod Exactly
 pub mod Away
 pub mod Narrow

@@ -1,22 +1,25 @@
 -- What the float leaves' proofs share: a value that a format holds is written in one way (`value-unique`); a rounded value rounds to itself (`round-grid`);
--- and a whole number of 24 + k digits is rounded by its k lowest digits (`by-digits`). Assumes nothing.
+-- and a whole number of 24 + k digits is rounded by its k lowest digits (`digits-value`). Assumes nothing.
 use mathlib.Core.Path.{_≡_, refl, sym, ap, _∙_, subst}
 use mathlib.Core.Logic.{_⊎_, inl, inr}
-use mathlib.Core.Bool.{Bool, true, false, _&&_, true≢false}
+use mathlib.Core.Bool.{Bool, false, _&&_}
 use Prim.Native.Nat.{ℕ, zero, suc, _+_, _-_, _*_, _/_, _%_, _^_, _≤_, _<_, compare}
 use native.Mathlib.Nat.{le-trans, le-of-eq, lt-of-lt-of-le, lt-of-le-of-lt, lt-of-not-le, not-le-of-lt, lt-irrefl, eq-or-lt-of-le, zero-lt-suc, zero-mul, one-mul, mul-one, mul-comm, mul-assoc, mul-left-comm, mul-right-comm, mul-pos, mul-le-mul-right, eq-of-mul-eq-mul-right, pow-suc, pow-succ', div-one, div-div-eq-div-mul}
 use native.Mathlib.Omega.{arith}
 use lib.IntN.{ℤ, pos, negsuc}
 use lib.Dec.{T, eqb, ltb, leb, eqb→eq, lit<}
 use lib.Pow.{pow-add, pow-pos, pow-mono, shl-lt}
-use lib.Ieee.{Float, nan, inf, fin, Format, binary32, binary64, prec, emax, low, up, down, size, round, mul, ofInt, fits}
+use lib.Ieee.{Float, nan, inf, fin, Format, binary32, binary64, prec, emax, low, up, down, size, round, ofInt, fits}
 use lib.Ieee.Digits.{size-lt, size-le}
 use lib.Ieee.Fits.{up-pos, down-pos, and-l, round-fits, nearest-le, kept-lt}
 use lib.Ieee.Exact.{HasValue, round-exact}
-use lib.Ieee.Back.{round-whole}
 use lib.Ieee.Nearest.{closest, closest-same}
 use lib.Ieee.Order.{drop, kept}
-use lib.Ieee.Scale.{round-same, round-val, grid, overflow}
+use lib.Ieee.Scale.{round-val, grid, overflow}
+
+pub ofInt-is : (f : Format) (n : ℕ) → ofInt f (pos n) ≡ round f false n 1
+unfolding ofInt
+ofInt-is f n = refl
 
 -- ---- a value that fits is written in one way
 
@@ -163,40 +166,11 @@ module _ (n k : ℕ) (lo : 2 ^ (23 + k) ≤ n) (hi : n < 2 ^ (24 + k)) where
       room : (k : ℕ) → k ≤ 40 → 24 + (k + 149) ≤ 213
       room k h = omega arith
 
-  pub by-digits : k ≤ 40 → round binary32 false (closest n (2 ^ k) * 2 ^ k) 1 ≡ round binary32 false n 1
-  by-digits h =
+  -- of its k lowest digits cut off, and the others rounded
+  pub digits-value : k ≤ 40 → HasValue (ofInt binary32 (pos n)) false (closest n (2 ^ k) * 2 ^ (k + 149)) (2 ^ 149)
+  digits-value h =
       let u = closest n (2 ^ k) in
-      round-same binary32 false (u * 2 ^ k) 1 (u * 2 ^ (k + 149)) (2 ^ 149) (zero-lt-suc 0) (pow-pos 149)
-      (mul-assoc u (2 ^ k) (2 ^ 149) ∙ ap (λ (x : ℕ). u * x) (sym (pow-add 2 k 149)) ∙ sym (mul-one (u * 2 ^ (k + 149))))
-      ∙ ap (λ (x : ℕ). round binary32 false x (2 ^ 149)) (sym grid-is)
-      ∙ round-grid binary32 n 1 (below-overflow h)
-
--- ---- times a power of two
-
-whole-scaled : (m e a p : ℕ) → m * 1 ≡ a * e → m * (1 * p) * 1 ≡ a * p * (e * 1)
-whole-scaled m e a p h =
-    mul-one (m * (1 * p))
-    ∙ ap (λ (z : ℕ). m * z) (one-mul p)
-    ∙ ap (λ (z : ℕ). z * p) (sym (mul-one m) ∙ h)
-    ∙ mul-right-comm a e p
-    ∙ sym (ap (λ (z : ℕ). a * p * z) (mul-one e))
-
-pub scale-at : (f : Format) (x : Float) (a k : ℕ) → HasValue x false a 1 → mul f x (fin false 1 (pos k)) ≡ round f false (a * 2 ^ k) 1
-unfolding mul
-scale-at f nan a k h = absurd h
-scale-at f (inf s) a k h = absurd h
-scale-at f (fin true m e) a k h = absurd (true≢false (h .0))
-scale-at f (fin false m e) a k h =
-    round-same f false (m * up e * (1 * 2 ^ k)) (down e * 1) (a * 2 ^ k) 1 (mul-pos (down-pos e) (zero-lt-suc 0)) (zero-lt-suc 0) (whole-scaled (m * up e) (down e) a (2 ^ k) (h .1))
-
-pub ofInt-is : (f : Format) (n : ℕ) → ofInt f (pos n) ≡ round f false n 1
-unfolding ofInt
-ofInt-is f n = refl
-
--- what `u64_to_f32` works out
-pub nearest-by-digits : (n k : ℕ) → 2 ^ (23 + k) ≤ n → n < 2 ^ (24 + k) → k ≤ 40 → mul binary32 (ofInt binary32 (pos (closest n (2 ^ k)))) (fin false 1 (pos k)) ≡ ofInt binary32 (pos n)
-nearest-by-digits n k lo hi h =
-    let u = closest n (2 ^ k) in
-    scale-at binary32 (ofInt binary32 (pos u)) u k (subst (λ (z : Float). HasValue z false u 1) (sym (ofInt-is binary32 u)) (round-whole binary32 false u (few-digits n k lo hi)))
-    ∙ by-digits n k lo hi h
-    ∙ sym (ofInt-is binary32 n)
+      let small = below-overflow h in
+      subst (λ (x : Float). HasValue x false (u * 2 ^ (k + 149)) (2 ^ 149))
+      (ap (λ (x : ℕ). round binary32 false x (2 ^ 149)) (sym grid-is) ∙ round-grid binary32 n 1 small ∙ sym (ofInt-is binary32 n))
+      (exact-at binary32 false u (k + 149) few-digits (subst (λ (x : ℕ). x < overflow binary32) grid-is small))

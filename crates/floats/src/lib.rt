@@ -12,42 +12,31 @@ ghost use lib.Ieee.Positive.{positive, num, den};
 ghost use Rattle.floats.specs.Rounding as Rounding;
 ghost use Rattle.floats.specs.Selection as Selection;
 
-// 2^k as an `f32`, by its exponent field.
-fn power_of_two(k: u32) -> f32
-    requires { ⌜ k ≤ 63 ⌝ }
-    ensures { λ r. ⌜ r ≡ fin false 1 (pos k) ⌝ }
-{
-    f32::from_bits((k + 127) << 23)
-}
-
-// n / 2^cut to the nearest whole number, ties to even, by the remainder that is cut off.
+// n / 2^cut to the nearest whole number, ties to even. The remainder that is cut off says which way:
+// one less than half a unit, and one more where the part kept is odd, carry over just where it rounds up.
 fn nearest_part(n: u64, cut: u32) -> u64
     requires { ⌜ (0 < cut) × (cut ≤ 40) ⌝ }
     ensures { λ r. ⌜ r ≡ closest n (2 ^ cut) ⌝ }
 {
     let unit: u64 = 1 << cut;
     let kept: u64 = n >> cut;
-    let twice: u64 = (n & (unit - 1)) * 2;
-    if twice < unit {
-        return kept;
-    }
-    if twice > unit {
-        return kept + 1;
-    }
-    kept + kept % 2
+    let rest: u64 = n & (unit - 1);
+    kept + ((rest + (unit / 2 - 1) + kept % 2) >> cut)
 }
 
-// Rust's `n as f32`: the nearest `f32`, ties to even. The count of leading zeros says how many of
-// n's digits an `f32` has no room for. Those are cut off, and the power of two is put back exactly.
+// Rust's `n as f32`: the nearest `f32`, ties to even. The count of leading zeros finds the exponent,
+// and says how many of n's digits an `f32` has no room for. Those are cut off. The others, the leading
+// one among them, are added to the exponent's field; where they round up to 2^24 they carry into it.
 pub fn u64_to_f32(n: u64) -> f32
     ensures { λ r. ⌜ r ≡ Ieee.ofInt binary32 (pos n) ⌝ }
 {
     let zeros: u32 = u64::leading_zeros(n);
     if zeros >= 40 {
-        return n as f32;
+        return (n as u32) as f32;
     }
     let cut: u32 = 40 - zeros;
-    (nearest_part(n, cut) as f32) * power_of_two(cut)
+    let digits: u64 = nearest_part(n, cut);
+    f32::from_bits((cut + 149) * 0x80_0000 + (digits as u32))
 }
 
 // x to the nearest whole number, halves up. Doubling is exact, and the whole part of 2x says both

@@ -1,10 +1,15 @@
 -- `floats::nearest_part` meets its contract: `proofs/Cut.antt` has its arithmetic. Assumes nothing.
 use borrow.Author.Needs.{needs}
-use Prim.Native.Nat.{_/_, _^_, _<_}
+use Prim.Native.Nat.{_+_, _-_, _/_, _%_, _^_, _<_}
 use native.Mathlib.Omega.{arith}
-use Rattle.floats.proofs.Cut.{unit-pos, twice-fits, kept-fits, cut-below, cut-above, cut-level}
+use lib.Bits.{bitAnd}
+use Rattle.floats.proofs.Cut.{unit, unit-pos, kept-fits, sum-fits, half-pos, carry-fits, cut-is}
 use Rattle.floats.proofs.nearest_part.Statement.{statement}
 use Rattle.floats.proofs.nearest_part.Tie as tie
+
+-- what is added to the remainder, and the remainder, fit
+sum : (c : tie.Start) → bitAnd (c .args .n) (unit (c .args .cut) - 1) + (unit (c .args .cut) / 2 - 1) + c .args .n / 2 ^ c .args .cut % 2 < 2 ^ 63
+sum c = sum-fits (c .args .n) (c .args .cut) (c .pre .0) (c .pre .1)
 
 shl-unit : tie.Need-shl-unit
 shl-unit c = search needs
@@ -12,29 +17,26 @@ shl-unit c = search needs
 shr-kept : tie.Need-shr-kept
 shr-kept c = search needs
 
-sub-twice : tie.Need-sub-twice
-sub-twice c = unit-pos (c .args .n) (c .args .cut) (c .pre .0) (c .pre .1)
+sub-rest : tie.Need-sub-rest
+sub-rest c = unit-pos (c .args .n) (c .args .cut) (c .pre .0) (c .pre .1)
 
-mul-twice : tie.Need-mul-twice
-mul-twice c = record { fits = twice-fits (c .args .n) (c .args .cut) (c .pre .0) (c .pre .1) }
-
-kept : (c : tie.Start) → c .args .n / 2 ^ c .args .cut < 2 ^ 63
-kept c = kept-fits (c .args .n) (c .args .cut) (c .pre .0) (c .pre .1) (c .fits .n .fits)
-
-returns : tie.Need-returns
-returns c = let s = c .before in cut-below (s .args .n) (s .args .cut) (s .pre .0) (s .pre .1) (c .if1 .taken)
+sub-result : tie.Need-sub-result
+sub-result c = half-pos (c .args .n) (c .args .cut) (c .pre .0) (c .pre .1)
 
 add-result : tie.Need-add-result
-add-result c = omega (arith, kept (c .before .before))
-
-returns-2 : tie.Need-returns-2
-returns-2 c = let s = c .before .before in cut-above (s .args .n) (s .args .cut) (s .pre .0) (s .pre .1) (c .if2 .taken)
+add-result c = omega (arith, sum c)
 
 add-result-2 : tie.Need-add-result-2
-add-result-2 c = omega (arith, kept (c .before .before))
+add-result-2 c = omega (arith, sum c)
 
-returns-3 : tie.Need-returns-3
-returns-3 c = let s = c .before .before in cut-level (s .args .n) (s .args .cut) (s .pre .0) (s .pre .1) (c .before .if1 .left) (c .if2 .left)
+shr-result : tie.Need-shr-result
+shr-result c = search needs
+
+add-result-3 : tie.Need-add-result-3
+add-result-3 c = omega (arith, kept-fits (c .args .n) (c .args .cut) (c .pre .0) (c .pre .1) (c .fits .n .fits), carry-fits (c .args .n) (c .args .cut) (c .pre .0) (c .pre .1))
+
+returns : tie.Need-returns
+returns c = cut-is (c .args .n) (c .args .cut) (c .pre .0) (c .pre .1)
 
 pub nearest-part-spec : {M : Type 1} → statement M
-nearest-part-spec = tie.close (tie.spec shl-unit shr-kept sub-twice mul-twice returns add-result returns-2 add-result-2 returns-3)
+nearest-part-spec = tie.close (tie.spec shl-unit shr-kept sub-rest sub-result add-result add-result-2 shr-result add-result-3 returns)

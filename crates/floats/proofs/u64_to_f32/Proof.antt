@@ -1,14 +1,17 @@
--- `floats::u64_to_f32` meets its contract. `proofs/Cut.antt` says what the count of leading zeros tells of n, and `proofs/Round.antt` that the digits kept, times the power of two, are n rounded once.
--- Assumes nothing.
+-- `floats::u64_to_f32` meets its contract. `proofs/Cut.antt` says what the count of leading zeros tells of n, and `proofs/Assembled.antt` that the exponent's field
+-- and the digits kept are n rounded once. Assumes nothing.
 use borrow.Author.Needs.{needs}
-use mathlib.Core.Path.{sym, ap₂, _∙_, subst}
+use mathlib.Core.Path.{sym, ap, _∙_, subst}
+use mathlib.Core.Bool.{not}
 use Prim.Native.Nat.{ℕ, _+_, _-_, _^_, _≤_, _<_}
+use native.Mathlib.Omega.{arith}
 use lib.IntN.{pos}
 use lib.Dec.{T, le→leb}
 use lib.Count.{leadingZeros}
-use lib.Ieee.{Float, binary32, mul, ofInt, inFloat}
+use lib.Ieee.{binary32, inFloat, ofBits, nanBits}
 use Rattle.floats.proofs.Cut.{small-of-zeros, digits-of-zeros}
-use Rattle.floats.proofs.Round.{few-digits, nearest-by-digits}
+use Rattle.floats.proofs.Round.{few-digits}
+use Rattle.floats.proofs.Assembled.{pattern, assembled, assembled-number}
 use Rattle.floats.proofs.u64_to_f32.Statement.{statement}
 use Rattle.floats.proofs.u64_to_f32.Tie as tie
 
@@ -16,8 +19,14 @@ in-float : (n : ℕ) → n ≤ 2 ^ 24 → T (inFloat binary32 (pos n))
 unfolding inFloat
 in-float n h = le→leb n (2 ^ 24) h
 
+small : (c : tie.Then1) → c .before .args .n ≤ 2 ^ 24
+small c = let s = c .before in small-of-zeros (s .args .n) (s .fits .n .fits) (c .if1 .taken)
+
+cast-result : tie.Need-cast-result
+cast-result c = omega (arith, small c)
+
 int-to-float-result : tie.Need-int-to-float-result
-int-to-float-result c = let s = c .before .before in in-float (s .args .n) (small-of-zeros (s .args .n) (s .fits .n .fits) (c .before .if1 .taken))
+int-to-float-result c = in-float (c .before .before .args .n) (small (c .before))
 
 returns : tie.Need-returns
 returns c = search needs
@@ -32,21 +41,38 @@ digits c = digits-of-zeros (c .before .args .n) (c .before .fits .n .fits) (c .i
 nearest-part-requires : tie.Need-nearest-part-requires
 nearest-part-requires c κs = search needs
 
-int-to-float-result-2 : tie.Need-int-to-float-result-2
-int-to-float-result-2 c =
-    let e = c .before .before in
-    let n = e .before .args .n in
-    in-float (c .before .nearest-part .result) (subst (λ (x : ℕ). x ≤ 2 ^ 24) (sym (c .before .nearest-part .ensures)) (few-digits n (40 - leadingZeros 64 n) (digits e .0) (digits e .1)))
+add-result : tie.Need-add-result
+add-result c = search needs
 
-power-of-two-requires : tie.Need-power-of-two-requires
-power-of-two-requires c κs = search needs
+mul-result : tie.Need-mul-result
+mul-result c = search needs
+
+few : (c : tie.After-nearest-part) → c .nearest-part .result ≤ 2 ^ 24
+few c =
+    let e = c .before in
+    let n = e .before .args .n in
+    subst (λ (x : ℕ). x ≤ 2 ^ 24) (sym (c .nearest-part .ensures)) (few-digits n (40 - leadingZeros 64 n) (digits e .0) (digits e .1))
+
+cast-result-2 : tie.Need-cast-result-2
+cast-result-2 c = omega (arith, few c)
+
+add-result-2 : tie.Need-add-result-2
+add-result-2 c = omega (arith, few c)
+
+float-from-bits-result : tie.Need-float-from-bits-result
+float-from-bits-result c =
+    let e = c .before in
+    let n = e .before .args .n in
+    let k = 40 - leadingZeros 64 n in
+    subst (λ (q : ℕ). T (not (nanBits binary32 (pattern k q)))) (sym (c .nearest-part .ensures)) (assembled-number n k (digits e .0) (digits e .1) (search needs))
 
 returns-2 : tie.Need-returns-2
 returns-2 c =
-    let e = c .before .before .before in
+    let e = c .before in
     let n = e .before .args .n in
-    ap₂ (λ (x : ℕ) (y : Float). mul binary32 (ofInt binary32 (pos x)) y) (c .before .before .nearest-part .ensures) (c .power-of-two .ensures)
-    ∙ nearest-by-digits n (40 - leadingZeros 64 n) (digits e .0) (digits e .1) (search needs)
+    let k = 40 - leadingZeros 64 n in
+    ap (λ (q : ℕ). ofBits binary32 (pattern k q)) (c .nearest-part .ensures) ∙ assembled n k (digits e .0) (digits e .1) (search needs)
 
 pub u64-to-f32-spec : {M : Type 1} → statement M
-u64-to-f32-spec = tie.close (tie.spec int-to-float-result returns sub-cut nearest-part-requires int-to-float-result-2 power-of-two-requires returns-2)
+u64-to-f32-spec =
+    tie.close (tie.spec cast-result int-to-float-result returns sub-cut nearest-part-requires add-result mul-result cast-result-2 add-result-2 float-from-bits-result returns-2)
