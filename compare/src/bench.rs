@@ -1,12 +1,15 @@
 //! Both sides on the same inputs in one run, in turn. A small function is
 //! called through a pointer to an `extern "C"` function on either side, so
-//! that a call costs both the same.
+//! that a call costs both the same. The leaves of the library check their
+//! arguments too, which the reference's do not.
 
-use crate::capi;
+use crate::capi::{self, Answer};
 use crate::harness::Rng;
+use audiofp::Reach;
 use audiofp::matching::TimeOffset;
+use std::cell::RefCell;
 use std::hint::black_box;
-use std::time::Instant;
+use std::time::{Duration, Instant};
 
 const INPUTS: usize = 1 << 16;
 const TURNS: usize = 41;
@@ -28,6 +31,21 @@ pub fn run(only: Option<&str>) {
     from_frames(&table, "any i64, rates below 100", || {
         (rng.next() as i64, (100.0 * rng.unit()) as f32)
     });
+    sort(&table, "10,000 votes as gathered", &mut rng, 10_000);
+    sort(&table, "1,000,000 votes as gathered", &mut rng, 1_000_000);
+    sweep(&table, "10 bins", &mut rng, 10);
+    sweep(&table, "1,000 bins", &mut rng, 1000);
+    sweep(&table, "100,000 bins", &mut rng, 100_000);
+    hough(&table, "1,000 bins", &mut rng, 1000, 1);
+    hough(&table, "20,000 bins", &mut rng, 20_000, 1);
+    hough(&table, "200,000 bins", &mut rng, 200_000, 1);
+    hough(
+        &table,
+        "200,000 bins, tolerance 65,535",
+        &mut rng,
+        200_000,
+        65_535,
+    );
 }
 
 struct Table<'a> {
@@ -45,22 +63,36 @@ impl Table<'_> {
         sides: [S; 2],
         call: impl Fn(S, I) -> u64,
     ) {
+        let sides = black_box(sides);
+        self.medians(name, what, inputs.len(), |side| {
+            let began = Instant::now();
+            let sum = inputs
+                .iter()
+                .fold(0, |sum: u64, &i| sum.wrapping_add(call(sides[side], i)));
+            let took = began.elapsed();
+            black_box(sum);
+            took
+        });
+    }
+
+    /// One row of what `time` measures: `calls` calls of one side.
+    fn medians(
+        &self,
+        name: &str,
+        what: &str,
+        calls: usize,
+        mut time: impl FnMut(usize) -> Duration,
+    ) {
         if self.only.is_some_and(|only| !name.contains(only)) {
             return;
         }
-        let sides = black_box(sides);
         let mut times = [Vec::new(), Vec::new()];
         // The first turn warms the caches and is not counted.
         for turn in 0..=TURNS {
-            for (side, times) in sides.into_iter().zip(&mut times) {
-                let began = Instant::now();
-                let sum = inputs
-                    .iter()
-                    .fold(0, |sum: u64, &i| sum.wrapping_add(call(side, i)));
-                let took = began.elapsed();
-                black_box(sum);
+            for (side, times) in times.iter_mut().enumerate() {
+                let took = time(side);
                 if turn > 0 {
-                    times.push(took.as_secs_f64() * 1e9 / inputs.len() as f64);
+                    times.push(took.as_secs_f64() * 1e9 / calls as f64);
                 }
             }
         }
@@ -68,8 +100,11 @@ impl Table<'_> {
             times.sort_unstable_by(f64::total_cmp);
             times[times.len() / 2]
         });
+        let shown = |ns: f64| format!("{ns:.*}", if ns < 1000.0 { 2 } else { 0 });
         println!(
-            "| `{name}` | {what} | {ours:.2} | {rust:.2} | {:.2} |",
+            "| `{name}` | {what} | {} | {} | {:.2} |",
+            shown(ours),
+            shown(rust),
             ours / rust
         );
     }
@@ -106,4 +141,146 @@ fn from_frames(table: &Table<'_>, what: &str, input: impl FnMut() -> (i64, f32))
             answer[1] as u64
         },
     );
+}
+
+/// Votes of a query of 2,048 hashes, hash by hash, under each key the
+/// postings of 1,000 recordings in order of arrival. Sorted by recording and
+/// offset: ours as one word a vote, the reference's as it keeps them.
+fn sort(table: &Table<'_>, what: &str, rng: &mut Rng, votes: usize) {
+    const HASHES: usize = 2048;
+    const Q_MAX: i64 = HASHES as i64 - 1;
+    let mut gathered: Vec<(u32, i64, u32)> = Vec::new();
+    for position in 0..HASHES as u32 {
+        let until = votes * (position as usize + 1) / HASHES;
+        let mut postings: Vec<[u64; 2]> = (gathered.len()..until)
+            .map(|_| [rng.below(1000), rng.below(20_000)])
+            .collect();
+        postings.sort_unstable();
+        gathered.extend(postings.iter().map(|&[id, anchor]| {
+            let offset = anchor as i64 - i64::from(position);
+            (id as u32, offset, position)
+        }));
+    }
+    let word = |&(id, offset, position): &(u32, i64, u32)| {
+        (i64::from(id) << 44) + ((offset + Q_MAX) << 11) + i64::from(position)
+    };
+    let packed: Vec<i64> = gathered.iter().map(word).collect();
+    let mut words = vec![0; 2 * votes];
+    let mut tuples = gathered.clone();
+    table.medians("sort of votes", what, 1, |side| {
+        words[..votes].copy_from_slice(&packed);
+        tuples.copy_from_slice(&gathered);
+        let began = Instant::now();
+        if side == 0 {
+            capi::sorting_sort_words(&mut words, votes);
+        } else {
+            tuples.sort_unstable_by_key(|&(r, d, _)| (r, d));
+        }
+        let took = began.elapsed();
+        black_box((&words, &tuples));
+        took
+    });
+}
+
+/// The same bins for either side.
+struct Bins<K> {
+    ours: Vec<i64>,
+    rust: Vec<(K, u32)>,
+}
+
+/// Enough of them that a turn takes long enough.
+fn enough<K>(bins: usize, input: impl FnMut() -> Bins<K>) -> Vec<Bins<K>> {
+    let inputs = INPUTS.div_ceil(4 * bins);
+    std::iter::repeat_with(input).take(inputs).collect()
+}
+
+impl Bins<i64> {
+    /// It ends 1,000 off the bins.
+    fn span(&self) -> (i64, i64) {
+        (
+            self.rust[0].0 - 1000,
+            self.rust[self.rust.len() - 1].0 + 1000,
+        )
+    }
+}
+
+fn sweep(table: &Table<'_>, what: &str, rng: &mut Rng, bins: usize) {
+    type Input = Bins<i64>;
+    // Gaps of 20 on average.
+    let inputs = enough(bins, || {
+        let mut offset = -10 * bins as i64;
+        let rust: Vec<(i64, u32)> = (0..bins)
+            .map(|_| {
+                offset += 1 + rng.below(39) as i64;
+                (offset, 1 + rng.below(3) as u32)
+            })
+            .collect();
+        let ours = rust.iter().flat_map(|&(d, n)| [d, n.into()]).collect();
+        Bins { ours, rust }
+    });
+    let ours = |input: &Input| {
+        let (low, high) = input.span();
+        capi::consolidate_sparse_wang_box_peak(&input.ours, 1, low, high)
+    };
+    let rust = |input: &Input| {
+        let (low, high) = input.span();
+        let (peak, centre, mode, total) = Reach::sparse_wang_box_peak(&input.rust, 1, low, high);
+        [1, peak.into(), centre as u64, mode as u64, total, 0, 0, 0]
+    };
+    let sides: [fn(&Input) -> Answer; 2] = [ours, rust];
+    let inputs: Vec<&Input> = inputs.iter().collect();
+    table.row("sparse_wang_box_peak", what, &inputs, sides, |side, i| {
+        side(i)[4]
+    });
+}
+
+fn hough(table: &Table<'_>, what: &str, rng: &mut Rng, bins: usize, tol: u64) {
+    type Input = Bins<(u32, i64)>;
+    // 24 scale bins; every other offset or so is taken.
+    let inputs = enough(bins, || {
+        let mut places: Vec<(u32, i64)> = Vec::new();
+        let row = bins.div_ceil(24);
+        for scale in 0..24 {
+            let mut offset = -(row as i64);
+            places.extend((0..row).map(|_| {
+                offset += 1 + rng.below(3) as i64;
+                (scale, offset)
+            }));
+        }
+        places.truncate(bins);
+        let rust: Vec<_> = places
+            .into_iter()
+            .map(|place| (place, 1 + rng.below(3) as u32))
+            .collect();
+        let ours = rust
+            .iter()
+            .flat_map(|&((scale, offset), n)| [scale.into(), offset, n.into()])
+            .collect();
+        Bins { ours, rust }
+    });
+    let reach = RefCell::new(Reach::default());
+    let ours = |_: &mut Reach, input: &Input, tol| capi::hough_panako_peak(&input.ours, tol);
+    let rust = |reach: &mut Reach, input: &Input, tol: u64| {
+        let (bins, tol) = (&input.rust, tol as i64);
+        let (votes, at) = reach.panako_hough_peak(bins, tol);
+        let offset = reach.panako_peak_offset(bins, at, tol);
+        let prominence = reach.panako_prominence(bins, at, tol).to_bits();
+        let offset = offset as u64;
+        [
+            1,
+            votes.into(),
+            at as u64,
+            offset,
+            prominence.into(),
+            0,
+            0,
+            0,
+        ]
+    };
+    let sides: [fn(&mut Reach, &Input, u64) -> Answer; 2] = [ours, rust];
+    let inputs: Vec<&Input> = inputs.iter().collect();
+    let name = "panako_hough_peak, offset, prominence";
+    table.row(name, what, &inputs, sides, |side, i| {
+        side(&mut reach.borrow_mut(), i, tol)[4]
+    });
 }

@@ -34,4 +34,72 @@ unsafe extern "C" {
         bin: u32,
     ) -> u32;
     pub safe fn matching_none(answer: &mut [u64; 8]);
+
+    pub safe fn panako_normalize_config(
+        scale_min: u32,
+        scale_max: u32,
+        scale_bins: u32,
+        tolerance: u32,
+        answer: &mut Answer,
+    );
+    pub safe fn panako_pair_vote(
+        scale_min: u32,
+        scale_max: u32,
+        scale_bins: u32,
+        q_anchor: u32,
+        q_end: u32,
+        r_anchor: u32,
+        r_end: u32,
+        answer: &mut Answer,
+    );
+}
+
+/// A leaf's answer: its case, 0 where the arguments are beyond the limits,
+/// then its values, signed ones in two's complement; unused words are 0.
+pub type Answer = [u64; 8];
+
+/// What an answer holds before the call: no leaf gives it.
+pub const UNANSWERED: Answer = [u64::MAX; 8];
+
+/// A slice passes as a pointer and a length.
+mod raw {
+    use super::Answer;
+
+    unsafe extern "C" {
+        pub fn sorting_sort_words(words: *mut i64, len: usize, n: usize) -> u32;
+        pub fn consolidate_mode_offset(bins: *const i64, len: usize, answer: &mut Answer);
+        pub fn consolidate_sparse_wang_box_peak(
+            bins: *const i64,
+            len: usize,
+            tol: u64,
+            low: i64,
+            high: i64,
+            answer: &mut Answer,
+        );
+        pub fn hough_panako_peak(bins: *const i64, len: usize, tol: u64, answer: &mut Answer);
+    }
+}
+
+pub fn sorting_sort_words(words: &mut [i64], n: usize) -> u32 {
+    // SAFETY: pointer and length are those of one slice, here and below.
+    unsafe { raw::sorting_sort_words(words.as_mut_ptr(), words.len(), n) }
+}
+
+pub fn consolidate_mode_offset(bins: &[i64]) -> Answer {
+    let mut answer = UNANSWERED;
+    unsafe { raw::consolidate_mode_offset(bins.as_ptr(), bins.len(), &mut answer) };
+    answer
+}
+
+pub fn consolidate_sparse_wang_box_peak(bins: &[i64], tol: u64, low: i64, high: i64) -> Answer {
+    let (at, len) = (bins.as_ptr(), bins.len());
+    let mut answer = UNANSWERED;
+    unsafe { raw::consolidate_sparse_wang_box_peak(at, len, tol, low, high, &mut answer) };
+    answer
+}
+
+pub fn hough_panako_peak(bins: &[i64], tol: u64) -> Answer {
+    let mut answer = UNANSWERED;
+    unsafe { raw::hough_panako_peak(bins.as_ptr(), bins.len(), tol, &mut answer) };
+    answer
 }

@@ -1,7 +1,7 @@
 //! What all comparisons share: random numbers, lists of boundary values, and
 //! the check that holds our answer to the Rust's.
 
-use crate::capi::{NAN_F32, NAN_F64};
+use crate::capi::{Answer, NAN_F32, NAN_F64};
 
 /// A run: its settings, and how many checks have passed.
 pub struct Run {
@@ -55,9 +55,15 @@ impl Check {
     /// Counts one input; ends the run at a difference.
     #[inline(always)]
     pub fn same(&mut self, input: &[u64], ours: &[u64], rust: &[u64]) {
+        self.same_of(|| input.to_vec(), ours, rust);
+    }
+
+    /// Likewise; the input's words are asked for at a difference only.
+    #[inline(always)]
+    pub fn same_of(&mut self, input: impl FnOnce() -> Vec<u64>, ours: &[u64], rust: &[u64]) {
         self.inputs += 1;
         if ours != rust {
-            self.differs(input, ours, rust);
+            self.differs(&input(), ours, rust);
         }
     }
 
@@ -83,6 +89,17 @@ pub fn word32(x: f32) -> u64 {
 #[inline]
 pub fn word64(x: f64) -> u64 {
     if x.is_nan() { NAN_F64 } else { x.to_bits() }
+}
+
+/// Signed numbers as words.
+pub fn words(list: &[i64]) -> Vec<u64> {
+    list.iter().map(|&number| number as u64).collect()
+}
+
+/// An answer's words, the unused ones 0.
+#[inline]
+pub fn answer<const N: usize>(words: [u64; N]) -> Answer {
+    std::array::from_fn(|i| words.get(i).copied().unwrap_or(0))
 }
 
 /// splitmix64
@@ -111,6 +128,13 @@ impl Rng {
             0 => 0,
             length => self.next() >> (64 - length) | 1 << (length - 1),
         }
+    }
+
+    /// A number of 0 to `bits` bits, likewise, with either sign.
+    #[inline]
+    pub fn signed(&mut self, bits: u32) -> i64 {
+        let size = self.sized(bits) as i64;
+        if self.below(2) == 0 { size } else { -size }
     }
 
     /// One of `list`.

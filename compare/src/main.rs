@@ -7,9 +7,12 @@
 
 mod bench;
 mod capi;
+mod consolidate;
 mod floats;
 mod harness;
+mod hough;
 mod matching;
+mod panako;
 
 use harness::Run;
 
@@ -49,6 +52,9 @@ fn main() {
     println!("compare: seed {}, scale {}", run.seed, run.scale);
     floats::run(&mut run);
     matching::run(&mut run);
+    consolidate::run(&mut run);
+    hough::run(&mut run);
+    panako::run(&mut run);
     if run.passed == 0 {
         eprintln!("compare: no check has that name");
         std::process::exit(2);

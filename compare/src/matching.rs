@@ -406,7 +406,7 @@ fn wang_score(check: &mut Check) {
 }
 
 /// Settings whose gates let every candidate pass.
-fn open_panako() -> PanakoMatchConfig {
+pub fn open_panako() -> PanakoMatchConfig {
     PanakoMatchConfig {
         offset_tolerance_frames: 0,
         min_votes: 0,
@@ -426,7 +426,7 @@ fn panako_hash(hash: u32, span: u32) -> PanakoHash {
     }
 }
 
-fn panako(hashes: Vec<PanakoHash>) -> PanakoFingerprint {
+pub fn panako(hashes: Vec<PanakoHash>) -> PanakoFingerprint {
     PanakoFingerprint {
         hashes,
         frames_per_sec: 62.5,

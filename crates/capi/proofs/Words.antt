@@ -61,3 +61,7 @@ above z h t = go z h (ap (λ (y : ℤ). ltZ y (pos 0)) (sym (word-is z h)) ∙ t
     go : (z : ℤ) → mag z < 2 ^ 63 → ltZ z (pos 0) ≡ false → (y : ℤ) → y ≡ z → (T (nonNeg y) × Fits w64 (natAbs y)) × (natAbs y ≡ twosComplement z)
     go (pos n) h t y e = rw e ((tt, record { fits = omega arith }), refl)
     go (negsuc n) h t y e = absurd (let z : _≡_ {A = ℕ} 0 1 = cc in omega arith)
+
+-- what `word_of` yields of a number that went through a local or a field
+pub written : (z : ℤ) (r : ℕ) → mag z < 2 ^ 63 → r ≡ twosComplement (word z) → r ≡ twosComplement z
+written z r h e = e ∙ ap twosComplement (word-is z h)

@@ -1,2 +1,3 @@
 -- How the C interface writes what the library yields.
 pub mod Codes
+pub mod Leaves

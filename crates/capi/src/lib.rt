@@ -1,5 +1,7 @@
 // The C interface of the library. Floats pass as their bit patterns, a NaN's being 7FC00000 or
 // 7FF8000000000000 (hexadecimal) where it is a result; a slice passes as a pointer and a length.
+mod leaves;
+
 ghost use mathlib.Core.Path.{_≡_};
 ghost use mathlib.Core.List.{[], _∷_};
 ghost use lib.IntN.{pos};

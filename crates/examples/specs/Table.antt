@@ -1,11 +1,19 @@
 -- The fixed examples as one table with one test, `right`. Floats are given by their bit patterns. Definitions only. Assumes nothing.
 use mathlib.Core.Bool.{Bool, true, false, _&&_, Bool·beq}
 use mathlib.Core.List.{List, [], _∷_}
-use Prim.Native.Nat.{ℕ}
+use Prim.Native.Nat.{ℕ, _/_}
 use lib.IntN.{ℤ, pos, negsuc}
 use lib.Dec.{eqb}
+use lib.ListN.{length}
 use lib.Ieee.{Float, binary32, binary64, ofBits, ofInt, toBits}
 use Rattle.floats.specs.Rounding.{roundToI64}
+use Rattle.consolidate.specs.declared.Mode.{Mode}
+use Rattle.consolidate.specs.declared.Mode.the-variants.{At, Nothing}
+use Rattle.consolidate.specs.declared.Peak.{Peak}
+use Rattle.consolidate.specs.Modes.{mode}
+use Rattle.consolidate.specs.Box.{offset, votes, boxPeak}
+use Rattle.hough.specs.Hough as Hough
+use Rattle.hough.specs.Hough.{houghPeak, peakOffset}
 use Rattle.matching.specs.Offsets.{millis}
 use Rattle.matching.specs.Rates.{ratesAgree}
 use Rattle.matching.specs.Scores.{wangProminence, scoreOf}
@@ -20,6 +28,12 @@ pub data Example : Type 0 where
   becomes : ℕ → ℕ → Example
   -- an f64, and the i64 that it is rounded to
   roundsTo : ℕ → ℤ → Example
+  -- bins (offset, count), tolerance, low and high end; then peak, centre, mode, total
+  sweep : List ℤ → ℕ → ℤ → ℤ → ℕ → ℤ → ℤ → ℕ → Example
+  -- bins (offset, count), and their mode
+  modeOf : List ℤ → ℤ → Example
+  -- bins (scale, offset, count), tolerance; then peak, the index of its bin, frames, prominence
+  hough : List ℤ → ℕ → ℕ → ℕ → ℤ → ℕ → Example
   -- Wang prominence of a peak, a total and a width
   prominence : ℕ → ℕ → ℕ → ℕ → Example
   -- the score of so many out of so many query hashes
@@ -40,11 +54,28 @@ single word = ofBits binary32 word
 abbrev is32 : Float → ℕ → Bool
 is32 x word = eqb (toBits binary32 x) word
 
+abbrev isAt : Mode → ℤ → Bool
+isAt Nothing z = false
+isAt (At d) z = sameℤ d z
+
+-- how many bins of so many words the list has
+abbrev binsIn : ℕ → List ℤ → ℕ
+binsIn words bins = length bins / words
+
+abbrev samePeak : Peak → ℕ → ℤ → ℤ → ℕ → Bool
+samePeak p peak centre mode total = eqb (p .votes) peak && (sameℤ (p .centre) centre && (sameℤ (p .mode) mode && eqb (p .total) total))
+
 unfoldable pub right : Example → Bool
 right (rates a b agree) = Bool·beq (ratesAgree (single a) (single b)) agree
 right (inMillis frames rate ms) = sameℤ (millis frames (single rate)) ms
 right (becomes n m) = is32 (ofInt binary32 (pos n)) (toBits binary32 (ofInt binary32 (pos m))) && sameℤ (roundToI64 (ofInt binary32 (pos n))) (pos m)
 right (roundsTo x z) = sameℤ (roundToI64 (ofBits binary64 x)) z
+right (sweep bins tol low high peak centre mode total) = samePeak (boxPeak bins (binsIn 2 bins) tol low high) peak centre mode total
+right (modeOf bins z) = isAt (mode (votes bins) (offset bins) (binsIn 2 bins)) z
+right (hough bins tol peak at frames word) =
+    let p = houghPeak bins (binsIn 3 bins) tol in
+    (eqb (p .votes) peak && eqb (p .at) at)
+    && (sameℤ (peakOffset bins (binsIn 3 bins) tol (p .at)) frames && is32 (Hough.prominence bins (binsIn 3 bins) tol (p .votes) (p .at)) word)
 right (prominence peak total width word) = is32 (wangProminence peak total width) word
 right (score n hashes word) = is32 (scoreOf n hashes) word
 right (scale min max bins bin word) = is32 (timeScale (binCentre (single min) (perBin (single min) (single max) bins) bin)) word
@@ -55,8 +86,17 @@ all p (x ∷ xs) = p x && all p xs
 
 abbrev pub table : List Example
 table =
+    -- document 01: (3:2, 5:2; 1; 0..8) → (4, 4, 4, 12); same, tolerance 0 → (2, 3, 3, 4)
+    sweep (pos 3 ∷ pos 2 ∷ pos 5 ∷ pos 2 ∷ []) 1 (pos 0) (pos 8) 4 (pos 4) (pos 4) 12
+    ∷ sweep (pos 3 ∷ pos 2 ∷ pos 5 ∷ pos 2 ∷ []) 0 (pos 0) (pos 8) 2 (pos 3) (pos 3) 4
+    -- document 01: (0:3; 2; 0..4) → (3, 1, 0, 9); empty, −4..2 → (0, −4, −4, 0)
+    ∷ sweep (pos 0 ∷ pos 3 ∷ []) 2 (pos 0) (pos 4) 3 (pos 1) (pos 0) 9
+    ∷ sweep [] 0 (negsuc 3) (pos 2) 0 (negsuc 3) (negsuc 3) 0
+    -- document 01: mode of 3:2, 4:2 is 3; of −3:2, −4:2 is −4
+    ∷ modeOf (pos 3 ∷ pos 2 ∷ pos 4 ∷ pos 2 ∷ []) (pos 3)
+    ∷ modeOf (negsuc 2 ∷ pos 2 ∷ negsuc 3 ∷ pos 2 ∷ []) (negsuc 3)
     -- document 01: 1000 and 999 agree; 62.5 and 62.4 don't
-    rates 0x447A_0000 0x4479_C000 true
+    ∷ rates 0x447A_0000 0x4479_C000 true
     ∷ rates 0x427A_0000 0x4279_999A false
     -- document 01: 1 frame at rate 2000 is 1 ms; −1 frame is −1 ms
     ∷ inMillis (pos 1) 0x44FA_0000 (pos 1)
@@ -64,6 +104,8 @@ table =
     -- document 01: 16,777,217 becomes 16,777,216; 16,777,219 becomes 16,777,220
     ∷ becomes 16777217 16777216
     ∷ becomes 16777219 16777220
+    -- document 01: Hough (4,10):2, (5,10):3, (9,10):1, tolerance 0 → peak 5 at the first bin, frames 10, prominence 2.5
+    ∷ hough (pos 4 ∷ pos 10 ∷ pos 2 ∷ pos 5 ∷ pos 10 ∷ pos 3 ∷ pos 9 ∷ pos 10 ∷ pos 1 ∷ []) 0 5 0 (pos 10) 0x4020_0000
     -- worked cases: 2.5 and −2.5, the f64 below 0.5, 2 ^ 63, a NaN
     ∷ roundsTo 0x4004_0000_0000_0000 (pos 3)
     ∷ roundsTo 0xC004_0000_0000_0000 (negsuc 2)

@@ -1,0 +1,5 @@
+-- Laws that belong to no one function.
+pub mod Votes
+pub mod Binning
+pub mod Marking
+pub mod Sparse

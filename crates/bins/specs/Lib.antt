@@ -1,0 +1,4 @@
+pub mod Votes
+pub mod Binned
+pub mod Distinct
+pub mod Examples

@@ -1,0 +1,63 @@
+-- `capi::leaves::hough_panako_peak` meets its contract. Assumes nothing.
+use mathlib.Core.Path.{_≡_, sym, _∙_}
+use mathlib.Core.List.{[], _∷_}
+use Prim.Native.Nat.{ℕ}
+use lib.Ieee.{binary32, toBits}
+use Rattle.hough.specs.declared.Answer.{Answer}
+use Rattle.hough.specs.declared.CheckedAnswer.{CheckedAnswer}
+use Rattle.hough.specs.declared.CheckedAnswer.the-variants.{Refused, Found}
+use Rattle.capi.specs.Codes.{twosComplement}
+use Rattle.capi.specs.Leaves.{houghWords, refusedWords}
+use Rattle.capi.proofs.Words.{written}
+use borrow.Author.Needs.{needs}
+use Rattle.capi.proofs.leaves.hough_panako_peak.Statement.{statement}
+use Rattle.capi.proofs.leaves.hough_panako_peak.Tie as tie
+
+checked-hough-requires : tie.Need-checked-hough-requires
+checked-hough-requires c κs = search needs
+
+enum-told : tie.Need-enum-told
+enum-told c = search needs
+
+enum-known-a : tie.Need-enum-known-a
+enum-known-a c = search needs
+
+word-of-requires : tie.Need-word-of-requires
+word-of-requires c κs = search needs
+
+f32-to-bits-requires : tie.Need-f32-to-bits-requires
+f32-to-bits-requires c κs = search needs
+
+cast-prominence : tie.Need-cast-prominence
+cast-prominence c = search needs
+
+-- the two cases
+refused : (r : CheckedAnswer) → r ≡ Refused → refusedWords ≡ houghWords r
+refused r e = rw e
+
+found : (r : CheckedAnswer) (a : Answer) (offset prominence : ℕ) → r ≡ Found a → offset ≡ twosComplement (a .offset) → prominence ≡ toBits binary32 (a .prominence)
+    → 1 ∷ a .peak .votes ∷ a .peak .at ∷ offset ∷ prominence ∷ 0 ∷ 0 ∷ 0 ∷ [] ≡ houghWords r
+found r a offset prominence e g h = rw (e, g, h)
+
+returns : tie.Need-returns
+returns c = refused _ (sym (c .before .before .before .checked-hough .ensures) ∙ c .before .enum-told .given .1)
+
+returns-2 : tie.Need-returns-2
+returns-2 c =
+    let w = c .before .before in
+    found _ (w .before .before .before .before .a .given .0 .0) (w .word-of .result) (c .before .f32-to-bits .result) (sym (w .before .before .before .before .before .before .checked-hough .ensures) ∙ w .before .before .before .before .a .given .1)
+    (written (w .before .before .before .before .a .given .0 .0 .offset) (w .word-of .result) (w .before .struct-told .given .1 .0 .1) (w .word-of .ensures))
+    (c .before .f32-to-bits .ensures)
+
+pub hough-panako-peak-spec : {M : Type 1} → statement M
+hough-panako-peak-spec =
+    tie.close
+    (tie.spec
+    checked-hough-requires
+    enum-told
+    enum-known-a
+    word-of-requires
+    f32-to-bits-requires
+    cast-prominence
+    returns
+    returns-2)

@@ -1,0 +1,21 @@
+-- `capi::leaves::sorting_sort_words` meets its contract. Assumes nothing.
+use borrow.Author.Tests.{le-leb, lt-leb}
+use Rattle.floats.proofs.Order.{not-both}
+use borrow.Author.Needs.{needs}
+use Rattle.capi.proofs.leaves.sorting_sort_words.Statement.{statement}
+use Rattle.capi.proofs.leaves.sorting_sort_words.Tie as tie
+
+sort-words-requires : tie.Need-sort-words-requires
+sort-words-requires c κs = search needs
+
+same-length : tie.Need-same-length
+same-length c = search needs
+
+returns : tie.Need-returns
+returns c = (rw (le-leb _ _ (c .before .before .before .if1 .taken)), λ e. (c .before .sort-words .ensures .0, c .before .sort-words .ensures .1))
+
+returns-2 : tie.Need-returns-2
+returns-2 c = (rw (lt-leb _ _ (c .if1 .left)), λ e. absurd (not-both e (lt-leb _ _ (c .if1 .left))))
+
+pub sorting-sort-words-spec : {M : Type 1} → statement M
+sorting-sort-words-spec = tie.close (tie.spec sort-words-requires same-length returns returns-2)

@@ -1,0 +1,9 @@
+pub mod Signed
+pub mod Ceiling
+pub mod Leading
+pub mod Sliding
+pub mod Tallies
+pub mod Spans
+pub mod Peaks
+pub mod Checks
+pub mod Facts

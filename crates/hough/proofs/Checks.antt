@@ -1,0 +1,84 @@
+-- The test says what the record says: it accepts every argument that the record holds for, and no other. Assumes nothing.
+use Prim.Native.Nat.{ℕ, _+_, _*_, _^_, _≤_, _<_}
+use mathlib.Core.Path.{_≡_, refl}
+use mathlib.Core.Bool.{true, _&&_, _||_}
+use mathlib.Core.List.{List, [], _∷_}
+use native.Mathlib.Omega.{arith}
+use native.Mathlib.Decide.{decLe}
+use lib.IntN.{ℤ, pos, natAbs}
+use lib.Signed.{nonNeg}
+use lib.Dec.{T, leb}
+use lib.ListN.{length}
+use borrow.Author.Tests.{leb-true, le-leb, lt-leb}
+use Rattle.maps.specs.Sums.{sumTo}
+use Rattle.maps.specs.Lists.{every}
+use Rattle.maps.proofs.Tests.{and-left, and-right, or-left, or-right, holds, is-true}
+use Rattle.maps.proofs.Lists.{every-at, every-make}
+use Rattle.hough.specs.Hough.{scaleWord, offset, count, scale, votes}
+use Rattle.hough.specs.Limits.{before, Bins, binOk, binsOk}
+
+-- what one bin's test shows
+record One (l : List ℤ) (n i : ℕ) : Type 0 where
+  scaled : T (nonNeg (scaleWord l i))
+  scales : scale l i ≤ 4095
+  close : natAbs (offset l i) ≤ 2 ^ 39
+  counted : T (nonNeg (count l i))
+  rises : i + 1 < n → T (before l i (i + 1))
+
+one : (l : List ℤ) (n i : ℕ) → binOk l n i ≡ true → One l n i
+one l n i e =
+    let a = nonNeg (scaleWord l i) in
+    let b = leb (scale l i) 4095 in
+    let c = leb (natAbs (offset l i)) (2 ^ 39) in
+    let d = nonNeg (count l i) in
+    let r = leb n (i + 1) || before l i (i + 1) in
+    let e₁ = and-left (a && b) (c && (d && r)) e in
+    let e₂ = and-right (a && b) (c && (d && r)) e in
+    let e₃ = and-right c (d && r) e₂ in
+    record {
+      scaled = holds (and-left a b e₁);
+      scales = leb-true (scale l i) 4095 (and-right a b e₁);
+      close = leb-true (natAbs (offset l i)) (2 ^ 39) (and-left c (d && r) e₂);
+      counted = holds (and-left d r e₃);
+      rises = λ u. holds (or-left (leb n (i + 1)) (before l i (i + 1)) (lt-leb n (i + 1) u) (and-right d r e₃));
+    }
+
+pub bins-of : (l : List ℤ) (n : ℕ) → binsOk l n ≡ true → Bins l n
+unfolding binsOk
+bins-of l n e =
+    let few = leb n 1000000 in
+    let room = leb (3 * n) (length l) in
+    let all = every n (binOk l n) in
+    let sum = leb (sumTo (votes l) n) 1000000 in
+    let e₁ = and-right few (room && (all && sum)) e in
+    let e₂ = and-right room (all && sum) e₁ in
+    let at : (i : ℕ) → i < n → One l n i = λ i h. one l n i (every-at (binOk l n) n i (and-left all sum e₂) h) in
+    record {
+      few = leb-true n 1000000 (and-left few (room && (all && sum)) e);
+      room = leb-true (3 * n) (length l) (and-left room (all && sum) e₁);
+      scaled = λ i h. at i h .scaled;
+      scales = λ i h. at i h .scales;
+      close = λ i h. at i h .close;
+      counted = λ i h. at i h .counted;
+      ascend = λ i h. at i (omega arith) .rises h;
+      sum = leb-true (sumTo (votes l) n) 1000000 (and-right all sum e₂);
+    }
+
+pub bins-ok : (l : List ℤ) (n : ℕ) → Bins l n → binsOk l n ≡ true
+unfolding binsOk
+bins-ok l n b =
+    rw (le-leb n 1000000 (b .few), le-leb (3 * n) (length l) (b .room), every-make (binOk l n) n at, le-leb (sumTo (votes l) n) 1000000 (b .sum)) refl
+  where
+    rise : (i : ℕ) → Dec (n ≤ i + 1) → (leb n (i + 1) || before l i (i + 1)) ≡ true
+    rise i (yes p) = rw (le-leb n (i + 1) p) refl
+    rise i (no q) = or-right (leb n (i + 1)) (before l i (i + 1)) (is-true (before l i (i + 1)) (b .ascend i (omega arith)))
+
+    at : (i : ℕ) → i < n → binOk l n i ≡ true
+    at i h =
+        rw (is-true (nonNeg (scaleWord l i)) (b .scaled i h), le-leb (scale l i) 4095 (b .scales i h), le-leb (natAbs (offset l i)) (2 ^ 39) (b .close i h), is-true (nonNeg (count l i)) (b .counted i h))
+        (rise i (decLe n (i + 1)))
+
+-- there are such bins: the example of document 01
+pub shown : Bins (pos 4 ∷ pos 10 ∷ pos 2 ∷ pos 5 ∷ pos 10 ∷ pos 3 ∷ pos 9 ∷ pos 10 ∷ pos 1 ∷ []) 3
+unfolding sumTo every binsOk
+shown = bins-of (pos 4 ∷ pos 10 ∷ pos 2 ∷ pos 5 ∷ pos 10 ∷ pos 3 ∷ pos 9 ∷ pos 10 ∷ pos 1 ∷ []) 3 refl

@@ -1,0 +1,5 @@
+pub mod Rows
+pub mod Places
+pub mod Walking
+pub mod Merging
+pub mod Checks

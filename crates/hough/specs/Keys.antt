@@ -1,0 +1,62 @@
+-- What the parts of the Hough walk say of each other, on natural numbers. Assumes nothing.
+use Prim.Native.Nat.{ℕ, _+_, _-_, _*_, _^_, _≤_, _<_}
+use mathlib.Core.Bool.{Bool, cond}
+use mathlib.Core.List.{List}
+use lib.IntN.{ℤ, pos, natAbs, _+ℤ_}
+use lib.Dec.{ltb}
+use Rattle.consolidate.specs.Windows.{Slides, Covers}
+use Rattle.consolidate.specs.declared.Window.{Window}
+use Rattle.hough.specs.Hough.{scale, offset, votes}
+use Rattle.hough.specs.declared.Peak.{Peak}
+use Rattle.hough.specs.declared.Windows.{Windows}
+use Rattle.hough.specs.declared.Background.{Background}
+
+-- a row of keys for each scale bin
+abbrev pub row : ℕ
+row = 2 ^ 41
+
+-- the offset's place in a row: the offset 0 stands in the middle
+unfoldable pub place : List ℤ → ℕ → ℕ
+place l i = natAbs (offset l i +ℤ pos (2 ^ 40))
+
+unfoldable pub key : List ℤ → ℕ → ℕ
+key l i = (scale l i + 1) * row + place l i
+
+-- the three windows around the key x, one row down, in its row and one row up: ready to move there, and there
+pub record Ready (l : List ℤ) (n tol x : ℕ) (t : Windows) : Type 0 where
+  pub under : Slides (key l) (votes l) n tol (x - row) (t .under)
+  pub here : Slides (key l) (votes l) n tol x (t .here)
+  pub over : Slides (key l) (votes l) n tol (x + row) (t .over)
+
+pub record Around (l : List ℤ) (n tol x : ℕ) (t : Windows) : Type 0 where
+  pub under : Covers (key l) (votes l) n tol (x - row) (t .under)
+  pub here : Covers (key l) (votes l) n tol x (t .here)
+  pub over : Covers (key l) (votes l) n tol (x + row) (t .over)
+
+abbrev pub closed : Window
+closed = record { enter = 0; leave = 0; sum = 0 }
+
+abbrev pub atStart : Windows
+atStart = record { under = closed; here = closed; over = closed; sum = 0 }
+
+-- the peak with the sum v of bin i
+abbrev pub betterOf : Peak → ℕ → ℕ → Peak
+betterOf p i v = cond (ltb (p .votes) v) (record { votes = v; at = i }) p
+
+-- the background with a bin's sum v, if that bin is far
+abbrev pub moreOf : Background → Bool → ℕ → Background
+moreOf b far v = cond far (record { sum = b .sum + v; count = b .count + 1 }) b
+
+-- no bin from `at` on has a key from x to before x + r
+pub record Ahead (d : ℕ → ℕ) (n at x most r : ℕ) : Type 0 where
+  pub some : 0 < r
+  pub few : r ≤ most
+  pub free : (j : ℕ) → at ≤ j → j < n → x + r ≤ d j
+
+-- none in the three windows' rows
+pub record Clear (l : List ℤ) (n x : ℕ) (t : Windows) (most r : ℕ) : Type 0 where
+  pub some : 0 < r
+  pub few : r ≤ most
+  pub under : (j : ℕ) → t .under .enter ≤ j → j < n → x - row + r ≤ key l j
+  pub here : (j : ℕ) → t .here .enter ≤ j → j < n → x + r ≤ key l j
+  pub over : (j : ℕ) → t .over .enter ≤ j → j < n → x + row + r ≤ key l j

@@ -1,0 +1,422 @@
+// `matching/consolidate.rs` of the reference, in two dimensions: Panako's Hough consolidation. A bin
+// is three words of a slice: its scale bin, its offset, its count. The bins ascend by scale bin, then
+// by offset.
+//
+// Scale bin and offset make one number, the bin's key: a row of 2^41 for each scale bin, and in it a
+// place for the offset, with the offset 0 in the middle. The keys ascend, and the neighbours of a bin
+// are those whose keys lie within the tolerance of its own, or of the same place one row down or up.
+// So three windows slide over the bins, each by two indices that only grow.
+ghost use mathlib.Core.Path.{_≡_};
+ghost use mathlib.Core.Bool.{_||_};
+ghost use Prim.Native.Nat.{ℕ, _+_, _-_, _*_, _<_, _≤_, _^_};
+ghost use lib.ListN.{length, getD};
+ghost use lib.IntN.{pos};
+ghost use lib.Dec.{leb};
+ghost use Rattle.maps.specs.Lists.{every};
+ghost use Rattle.consolidate.specs.Windows.{Passed, Slides, Covers};
+ghost use Rattle.hough.specs.Hough.{scale, offset, votes, dist, far, houghSum, houghPeak, peakOffset, farSum, farCount, meanOf, prominence};
+ghost use Rattle.hough.specs.Limits.{before, Bins, binOk, binsOk, answerAt, checkedAnswer};
+ghost use Rattle.hough.specs.Keys.{place, key, Ready, Around, atStart, betterOf, moreOf, Ahead, Clear};
+use consolidate::Pass;
+use consolidate::Tally;
+use consolidate::Window;
+
+const ROW: u64 = 0x200_0000_0000;
+
+const MIDDLE: i64 = 0x100_0000_0000;
+
+// The greatest sum, and the first bin that has it.
+pub struct Peak {
+    pub votes: u64,
+    pub at: usize,
+}
+
+// A peak, the offset that is reported for it, and its prominence.
+pub struct Answer {
+    pub peak: Peak,
+    pub offset: i64,
+    pub prominence: f32,
+}
+
+pub enum CheckedAnswer {
+    Refused,
+    Found(Answer),
+}
+
+// ---- bins
+
+// The scale bin of bin i.
+pub fn scale_at(s: &[i64], n: usize, i: usize) -> u64
+    requires { ⌜ Bins (now s) n × (i < n) ⌝ }
+    ensures { λ r. ⌜ (r ≡ scale (now (s .entry)) i) × (r ≤ 4095) ⌝ }
+{
+    let j = 3 * i;
+    let v = s[j];
+    v as u64
+}
+
+// The offset of bin i.
+fn offset_at(s: &[i64], n: usize, i: usize) -> i64
+    requires { ⌜ Bins (now s) n × (i < n) ⌝ }
+    ensures { λ r. ⌜ r ≡ offset (now (s .entry)) i ⌝ }
+{
+    let j = 3 * i + 1;
+    s[j]
+}
+
+// The place of bin i in its row.
+fn place_at(s: &[i64], n: usize, i: usize) -> u64
+    requires { ⌜ Bins (now s) n × (i < n) ⌝ }
+    ensures { λ r. ⌜ (r ≡ place (now (s .entry)) i) × (r ≤ 2 ^ 40 + 2 ^ 39) × (2 ^ 39 ≤ r) ⌝ }
+{
+    let j = 3 * i + 1;
+    let v = s[j] + MIDDLE;
+    v as u64
+}
+
+// The count of bin i.
+fn votes_at(s: &[i64], n: usize, i: usize) -> u64
+    requires { ⌜ Bins (now s) n × (i < n) ⌝ }
+    ensures { λ r. ⌜ r ≡ votes (now (s .entry)) i ⌝ }
+{
+    let j = 3 * i + 2;
+    let v = s[j];
+    v as u64
+}
+
+fn key_at(s: &[i64], n: usize, i: usize) -> u64
+    requires { ⌜ Bins (now s) n × (i < n) ⌝ }
+    ensures { λ r. ⌜ (r ≡ key (now (s .entry)) i) × (r ≤ 2 ^ 54) × (2 ^ 41 + 2 ^ 39 ≤ r) ⌝ }
+{
+    let row = scale_at(s, n, i) + 1;
+    row * ROW + place_at(s, n, i)
+}
+
+// ---- windows
+
+// Passes the bins from `from` on whose keys lie below `below`.
+fn advance(s: &[i64], n: usize, from: usize, below: u64) -> Pass
+    requires { ⌜ Bins (now s) n × (from ≤ n) ⌝ }
+    ensures { λ r. ⌜ Passed (key (now (s .entry))) (votes (now (s .entry))) n from below (r .at) (r .sum) ⌝ }
+{
+    let mut i = from;
+    let mut sum: u64 = 0;
+    while i < n {
+        if key_at(s, n, i) >= below {
+            return Pass { at: i, sum };
+        }
+        sum += votes_at(s, n, i);
+        i += 1;
+    }
+    Pass { at: i, sum }
+}
+
+// The window around the key x, from one around a key that is no higher.
+fn moved(s: &[i64], n: usize, tol: u64, w: Window, x: u64) -> Window
+    requires { ⌜ Bins (now s) n × (tol ≤ 65535) × (65535 ≤ x) × (x ≤ 2 ^ 55) × Slides (key (now s)) (votes (now s)) n tol x w ⌝ }
+    ensures { λ r. ⌜ Covers (key (now (s .entry))) (votes (now (s .entry))) n tol x r × (r .sum ≤ 1000000) ⌝ }
+{
+    let enter = w.enter;
+    let leave = w.leave;
+    let entered = advance(s, n, enter, x + tol + 1);
+    let left = advance(s, n, leave, x - tol);
+    let sum = w.sum + entered.sum - left.sum;
+    Window {
+        enter: entered.at,
+        leave: left.at,
+        sum,
+    }
+}
+
+// One row down, in the row itself and one row up; and the sum of the three.
+pub struct Windows {
+    pub under: Window,
+    pub here: Window,
+    pub over: Window,
+    pub sum: u64,
+}
+
+// The three windows around the key x.
+fn around(s: &[i64], n: usize, tol: u64, t: Windows, x: u64) -> Windows
+    requires { ⌜ Bins (now s) n × (tol ≤ 65535) × (2 ^ 41 + 65535 ≤ x) × (x ≤ 2 ^ 54 + 131072) × Ready (now s) n tol x t ⌝ }
+    ensures { λ r. ⌜ Around (now (s .entry)) n tol x r × (r .sum ≡ r .under .sum + r .here .sum + r .over .sum) ⌝ }
+{
+    let u = t.under;
+    let h = t.here;
+    let o = t.over;
+    let under = moved(s, n, tol, u, x - ROW);
+    let here = moved(s, n, tol, h, x);
+    let over = moved(s, n, tol, o, x + ROW);
+    let sum = under.sum + here.sum + over.sum;
+    Windows {
+        under,
+        here,
+        over,
+        sum,
+    }
+}
+
+// The three windows of bin i, and the sum of its neighbours' counts.
+fn stepped(s: &[i64], n: usize, tol: u64, t: Windows, i: usize) -> Windows
+    requires { ⌜ Bins (now s) n × (tol ≤ 65535) × (i < n) × Ready (now s) n tol (key (now s) i) t ⌝ }
+    ensures { λ r. ⌜ Around (now (s .entry)) n tol (key (now (s .entry)) i) r × (r .sum ≡ houghSum (now (s .entry)) n tol i) × (r .sum ≤ 1000000) ⌝ }
+{
+    let x = key_at(s, n, i);
+    around(s, n, tol, t, x)
+}
+
+fn at_start() -> Windows
+    ensures { λ r. ⌜ r ≡ atStart ⌝ }
+{
+    let w = Window {
+        enter: 0,
+        leave: 0,
+        sum: 0,
+    };
+    Windows {
+        under: w,
+        here: w,
+        over: w,
+        sum: 0,
+    }
+}
+
+// ---- the peak
+
+fn better(p: Peak, i: usize, v: u64) -> Peak
+    ensures { λ r. ⌜ r ≡ betterOf p i v ⌝ }
+{
+    if p.votes < v {
+        return Peak { votes: v, at: i };
+    }
+    p
+}
+
+// The greatest sum, and the first bin that has it.
+pub fn panako_hough_peak(s: &[i64], n: usize, tol: u64) -> Peak
+    requires { ⌜ Bins (now s) n × (tol ≤ 65535) ⌝ }
+    ensures { λ r. ⌜ r ≡ houghPeak (now (s .entry)) n tol ⌝ }
+    ensures { λ r. ⌜ (0 < n → r .at < n) × (r .votes ≤ 1000000) ⌝ }
+{
+    let mut t = at_start();
+    let mut best = Peak { votes: 0, at: 0 };
+    let mut i: usize = 0;
+    while i < n {
+        t = stepped(s, n, tol, t, i);
+        best = better(best, i, t.sum);
+        i += 1;
+    }
+    best
+}
+
+// ---- the prominence
+
+// Rust's `a.abs_diff(b)`.
+fn abs_diff(a: u64, b: u64) -> u64
+    ensures { λ r. ⌜ r ≡ dist a b ⌝ }
+{
+    if a <= b { b - a } else { a - b }
+}
+
+// Bin i is out of the reach of bin a.
+fn is_far(s: &[i64], n: usize, tol: u64, a: usize, i: usize) -> bool
+    requires { ⌜ Bins (now s) n × (tol ≤ 65535) × (a < n) × (i < n) ⌝ }
+    ensures { λ r. ⌜ r ≡ far (now (s .entry)) tol a i ⌝ }
+{
+    let scales = abs_diff(scale_at(s, n, a), scale_at(s, n, i));
+    let frames = abs_diff(place_at(s, n, a), place_at(s, n, i));
+    (scales > 2) | (frames > 2 * tol)
+}
+
+// The sums of the bins out of reach, added up, and how many they are.
+pub struct Background {
+    pub sum: u64,
+    pub count: u64,
+}
+
+fn more(b: Background, far: bool, v: u64) -> Background
+    requires { ⌜ (b .sum ≤ 2 ^ 60) × (b .count ≤ 2 ^ 60) × (v ≤ 2 ^ 60) ⌝ }
+    ensures { λ x. ⌜ x ≡ moreOf b far v ⌝ }
+{
+    if far {
+        return Background {
+            sum: b.sum + v,
+            count: b.count + 1,
+        };
+    }
+    b
+}
+
+// The background of bin a.
+fn background_of(s: &[i64], n: usize, tol: u64, a: usize) -> Background
+    requires { ⌜ Bins (now s) n × (tol ≤ 65535) × (a < n) ⌝ }
+    ensures { λ r. ⌜ (r .sum ≡ farSum (now (s .entry)) n tol a) × (r .count ≡ farCount (now (s .entry)) n tol a) ⌝ }
+{
+    let mut t = at_start();
+    let mut b = Background { sum: 0, count: 0 };
+    let mut i: usize = 0;
+    while i < n {
+        t = stepped(s, n, tol, t, i);
+        b = more(b, is_far(s, n, tol, a, i), t.sum);
+        i += 1;
+    }
+    b
+}
+
+fn mean(b: Background) -> f32
+    ensures { λ x. ⌜ x ≡ meanOf (b .sum) (b .count) ⌝ }
+{
+    if b.count == 0 {
+        return 0.0;
+    }
+    floats::u64_to_f32(b.sum) / floats::u64_to_f32(b.count)
+}
+
+// The peak's votes over one more than the mean of the sums out of its reach.
+pub fn panako_prominence(s: &[i64], n: usize, tol: u64, p: Peak) -> f32
+    requires { ⌜ Bins (now s) n × (tol ≤ 65535) × (p .at < n) ⌝ }
+    ensures { λ r. ⌜ r ≡ prominence (now (s .entry)) n tol (p .votes) (p .at) ⌝ }
+{
+    let b = background_of(s, n, tol, p.at);
+    floats::u64_to_f32(p.votes) / (mean(b) + 1.0)
+}
+
+// ---- the peak's offset
+
+// How far the key of bin `at` lies above x, or `most` where that is more or there is no such bin.
+fn ahead(s: &[i64], n: usize, at: usize, x: u64, most: u64) -> u64
+    requires { ⌜ Bins (now s) n × (0 < most) × ((j : ℕ) → at ≤ j → j < n → x < key (now s) j) ⌝ }
+    ensures { λ r. ⌜ Ahead (key (now (s .entry))) n at x most r ⌝ }
+{
+    if at < n {
+        let d = key_at(s, n, at) - x;
+        if d < most {
+            return d;
+        }
+    }
+    most
+}
+
+// How far the next offset with a bin is, and `most` at most.
+fn next_step(s: &[i64], n: usize, t: Windows, x: u64, most: u64) -> u64
+    requires { ⌜ Bins (now s) n × (0 < most) × (2 ^ 41 ≤ x) × (x ≤ 2 ^ 54 + 131072) × Around (now s) n 0 x t ⌝ }
+    ensures { λ r. ⌜ Clear (now (s .entry)) n x t most r ⌝ }
+{
+    let u = t.under;
+    let h = t.here;
+    let o = t.over;
+    let a = ahead(s, n, u.enter, x - ROW, most);
+    let b = ahead(s, n, h.enter, x, a);
+    ahead(s, n, o.enter, x + ROW, b)
+}
+
+// The offset that is reported for a peak at bin i: the mode of its neighbours' counts, merged by
+// offset. Only the offsets that have a bin are visited.
+pub fn panako_peak_offset(s: &[i64], n: usize, tol: u64, i: usize) -> i64
+    requires { ⌜ Bins (now s) n × (tol ≤ 65535) × (i < n) ⌝ }
+    ensures { λ r. ⌜ r ≡ peakOffset (now (s .entry)) n tol i ⌝ }
+{
+    let start = key_at(s, n, i) - tol;
+    let low = offset_at(s, n, i) - (tol as i64);
+    let width = 2 * tol + 1;
+    let mut t = at_start();
+    let mut y = Tally {
+        best: 0,
+        count: 0,
+        sum: 0,
+    };
+    let mut x: u64 = 0;
+    while x < width {
+        t = around(s, n, 0, t, start + x);
+        y = consolidate::tallied(y, t.sum, low + (x as i64));
+        x += next_step(s, n, t, start + x, width - x);
+    }
+    if y.best == 0 {
+        return offset_at(s, n, i);
+    }
+    consolidate::nearest_mean(y.sum, y.count)
+}
+
+// ---- for any arguments
+
+// Bin i is the last, or stands before the next.
+fn rises(s: &[i64], n: usize, i: usize) -> bool
+    requires { ⌜ (i < n) × (3 * n ≤ length (now s)) ⌝ }
+    ensures { λ r. ⌜ r ≡ (leb n (i + 1) || before (now (s .entry)) i (i + 1)) ⌝ }
+{
+    let next = i + 1;
+    if n <= next {
+        return true;
+    }
+    let a = consolidate::unsigned_abs(consolidate::word_at(s, 3 * i));
+    let b = consolidate::unsigned_abs(consolidate::word_at(s, 3 * next));
+    let up = consolidate::is_less(
+        consolidate::word_at(s, 3 * i + 1),
+        consolidate::word_at(s, 3 * next + 1),
+    );
+    (a < b) | ((a == b) & up)
+}
+
+fn bin_ok(s: &[i64], n: usize, i: usize) -> bool
+    requires { ⌜ (i < n) × (3 * n ≤ length (now s)) ⌝ }
+    ensures { λ r. ⌜ r ≡ binOk (now (s .entry)) n i ⌝ }
+{
+    let a = consolidate::word_at(s, 3 * i);
+    let d = consolidate::word_at(s, 3 * i + 1);
+    let v = consolidate::word_at(s, 3 * i + 2);
+    let scale_ok = consolidate::is_natural(a) & (consolidate::unsigned_abs(a) <= 4095);
+    let close = consolidate::unsigned_abs(d) <= 549755813888;
+    scale_ok & (close & (consolidate::is_natural(v) & rises(s, n, i)))
+}
+
+fn all_bins_ok(s: &[i64], n: usize) -> bool
+    requires { ⌜ 3 * n ≤ length (now s) ⌝ }
+    ensures { λ r. ⌜ r ≡ every n (binOk (now (s .entry)) n) ⌝ }
+{
+    let mut i = 0;
+    while i < n {
+        if !bin_ok(s, n, i) {
+            return false;
+        }
+        i += 1;
+    }
+    true
+}
+
+// Whether the leaves take the first n bins of s.
+pub fn bins_ok(s: &[i64], n: usize) -> bool
+    ensures { λ r. ⌜ r ≡ binsOk (now (s .entry)) n ⌝ }
+{
+    if n > 1000000 {
+        return false;
+    }
+    if 3 * n > s.len() {
+        return false;
+    }
+    if !all_bins_ok(s, n) {
+        return false;
+    }
+    consolidate::sum_ok(s, n, 3, 2)
+}
+
+fn answer_of(s: &[i64], n: usize, tol: u64) -> Answer
+    requires { ⌜ Bins (now s) n × (0 < n) × (tol ≤ 65535) ⌝ }
+    ensures { λ r. ⌜ r ≡ answerAt (now (s .entry)) n tol (houghPeak (now (s .entry)) n tol) ⌝ }
+{
+    let peak = panako_hough_peak(s, n, tol);
+    Answer {
+        peak,
+        offset: panako_peak_offset(s, n, tol, peak.at),
+        prominence: panako_prominence(s, n, tol, peak),
+    }
+}
+
+// The peak, its offset and its prominence, for any arguments.
+pub fn checked_hough(s: &[i64], n: usize, tol: u64) -> CheckedAnswer
+    ensures { λ r. ⌜ r ≡ checkedAnswer (now (s .entry)) n tol ⌝ }
+{
+    if (0 < n) & ((tol <= 65535) & bins_ok(s, n)) {
+        return CheckedAnswer::Found(answer_of(s, n, tol));
+    }
+    CheckedAnswer::Refused
+}

@@ -1,0 +1,7 @@
+-- Laws that belong to no one function.
+pub mod Tests
+pub mod Sums
+pub mod Lists
+pub mod Words
+pub mod Signed
+pub mod Entries

@@ -1,0 +1,6 @@
+pub mod Sums
+pub mod Lists
+pub mod Words
+pub mod Entries
+pub mod Bins
+pub mod Examples

@@ -1,0 +1,118 @@
+-- The bounds of a vote on a limited grid: its scale bin is the last one at most, and its offset lies in -2^39 .. 2^32, so that 2^39 more fits 40 bits.
+-- A scale with a vote is 2^7 at most, and anchors lie below 2^32. Assumes nothing.
+use mathlib.Core.Path.{_≡_, refl, sym, subst}
+use mathlib.Core.Bool.{Bool, true, false, _||_, cond, true≢false}
+use Prim.Native.Nat.{ℕ, zero, suc, _+_, _-_, _*_, _/_, _^_, _≤_, _<_, min, zero-le}
+use native.Mathlib.Nat.{le-trans, le-of-eq, le-of-lt, lt-of-lt-of-le, lt-of-le-of-lt, mul-one, div-lt-iff-lt-mul, min-le-left, sub-le, pos-of-ne-zero}
+use native.Mathlib.Omega.{arith}
+use lib.IntN.{ℤ, pos, negsuc, negℤ, _+ℤ_}
+use lib.Dec.{T, eqb, lit<, lit≤}
+use borrow.Author.Tests.{ltb-false, eqb-false, le-ltb}
+use lib.Ieee.{Float, nan, inf, fin, binary64, up, down, lt, le, sub, mul, div}
+use lib.Ieee.Fits.{down-pos}
+use lib.Ieee.Positive.{through}
+use Rattle.floats.specs.Rounding.{halfUp, roundToI64}
+use Rattle.floats.proofs.Order.{test}
+use Rattle.panako_vote.specs.Settings.{Accepted}
+use Rattle.panako_vote.specs.Grids.{gridOf, Limited}
+use Rattle.panako_vote.specs.Votes.{whole, outside, offsetAt, voteAt, span, scaleOf, voteOn, pairVote, InRange, Bounded}
+use Rattle.panako_vote.specs.declared.PanakoMatchConfig.{PanakoMatchConfig}
+use Rattle.panako_vote.specs.declared.ScaleGrid.{ScaleGrid}
+use Rattle.panako_vote.specs.declared.Vote.{Vote}
+use Rattle.panako_vote.proofs.Sizes.{Sized, sized-of-value, sized-sub, sized-mul, sized-div}
+use Rattle.panako_vote.proofs.Bins.{whole-is, bin-le}
+use Rattle.panako_vote.proofs.Limits.{at-most, limited}
+
+-- ---- the scale
+
+-- x / p is at most y / q, and that K
+past : (K x y p q : ℕ) → 0 < q → x * q ≤ y * p → y ≤ K * q → x ≤ K * p
+past K x y p q Q h g = le-trans (le-of-eq (sym (mul-one x))) (through x y K p q 1 Q h (le-trans (le-of-eq (mul-one y)) g))
+
+-- x is not above y, which is 2 ^ k at most
+not-above : (j k : ℕ) (y x : Float) → T (le y (fin false 1 (pos k))) → Sized false j x → lt y x ≡ false → Sized false k x
+unfolding lt le
+not-above j k nan x t h g = absurd t
+not-above j k (inf true) (fin s m e) t h g = absurd (true≢false g)
+not-above j k (inf false) x t h g = absurd t
+not-above j k (fin s n d) (fin true m e) t h g = absurd (true≢false (h .0))
+not-above j k (fin false n d) (fin false m e) t h g =
+    (refl, past (2 ^ k) (m * up e) (n * up d) (down e) (down d) (down-pos d) (ltb-false (n * up d * down e) (m * up e * down d) g) (at-most k n d t))
+not-above j k (fin true n d) (fin false m e) t h g =
+    (refl, past (2 ^ k) (m * up e) 0 (down e) (down d) (down-pos d) (part (n * up d * down e) (m * up e * down d) (0 * down e) (ltb-false 0 (n * up d * down e + m * up e * down d) g)) zero-le)
+  where
+    part : (a b c : ℕ) → a + b ≤ 0 → b ≤ c
+    part a b c h = omega arith
+
+whole-sized : (n : ℕ) → n < 2 ^ 32 → Sized false 32 (whole n)
+whole-sized n h = sized-of-value 32 (whole n) n (whole-is n h) (le-of-lt h)
+
+scale-sized : (r q : ℕ) → r < 2 ^ 32 → q < 2 ^ 32 → 0 < q → Sized false 32 (scaleOf r q)
+scale-sized r q R Q N = sized-div binary64 32 false (whole r) (whole q) q (lit< tt) (whole-sized r R) (whole-is q Q) N
+
+-- ---- the offset
+
+half-up-le : (a d K : ℕ) → 0 < d → a ≤ K * d → halfUp a d ≤ K
+half-up-le a d K D h = back (halfUp a d) K (div-lt-iff-lt-mul (twice d D) .1 (enough a d K D h))
+  where
+    twice : (d : ℕ) → 0 < d → 0 < 2 * d
+    twice d h = omega arith
+
+    enough : (a d K : ℕ) → 0 < d → a ≤ K * d → 2 * a + d < suc K * (2 * d)
+    enough a d K D h = omega arith
+
+    back : (x K : ℕ) → x < suc K → x ≤ K
+    back x K h = omega arith
+
+negated : (n : ℕ) → n ≤ 2 ^ 39 → InRange (negℤ (pos n))
+negated zero h = zero-le
+negated (suc n) h = h
+
+rounded : (x : Float) → (s : Bool) × Sized s (cond s 39 32) x → InRange (roundToI64 x)
+unfolding roundToI64
+rounded (fin true m e) (false, h) = absurd (true≢false (h .0))
+rounded (fin false m e) (true, h) = absurd (true≢false (sym (h .0)))
+rounded (fin true m e) (true, h) = negated (min (halfUp (m * up e) (down e)) (2 ^ 63)) (le-trans (min-le-left (halfUp (m * up e) (down e)) (2 ^ 63)) (half-up-le (m * up e) (down e) (2 ^ 39) (down-pos e) (h .1)))
+rounded (fin false m e) (false, h) = le-trans (min-le-left (halfUp (m * up e) (down e)) (2 ^ 63 - 1)) (half-up-le (m * up e) (down e) (2 ^ 32) (down-pos e) (h .1))
+
+offset-in-range : (x : Float) (q r : ℕ) → Sized false 7 x → q < 2 ^ 32 → r < 2 ^ 32 → InRange (offsetAt x q r)
+offset-in-range x q r X Q R =
+    rounded (sub binary64 (whole r) (mul binary64 x (whole q)))
+    (sized-sub binary64 32 39 (whole r) (mul binary64 x (whole q)) (lit< tt) (lit< tt) (whole-sized r R) (sized-mul binary64 7 32 false false x (whole q) (lit< tt) X (whole-sized q Q)))
+
+-- ---- the vote
+
+either : (a b : Bool) → (a || b) ≡ false → b ≡ false
+either true b h = absurd (true≢false h)
+either false b h = h
+
+at-bounded : (g : ScaleGrid) → Limited g → (x : Float) (q r : ℕ) → Sized false 32 x → q < 2 ^ 32 → r < 2 ^ 32 → Bounded (g .«last_bin») (voteAt g x q r)
+unfolding voteAt
+at-bounded g L x q r X Q R =
+    test (outside g x) (λ h. rw h tt)
+    (λ h. rw h (
+      bin-le (div binary64 (sub binary64 x (g .«scale_min»)) (g .«scale_per_bin»)) (g .«last_bin») (lt-of-lt-of-le (L .last) (lit≤ tt)),
+      offset-in-range x q r (not-above 32 7 (g .high) x (L .high) X (either (lt x (g .low)) (lt (g .high) x) h)) Q R,
+    ))
+
+pub vote-bounded : (g : ScaleGrid) → Limited g → (qa qc ra rc : ℕ) → qa < 2 ^ 32 → qc < 2 ^ 32 → ra < 2 ^ 32 → rc < 2 ^ 32 → Bounded (g .«last_bin») (voteOn g qa qc ra rc)
+unfolding voteOn
+vote-bounded g L qa qc ra rc QA QC RA RC =
+    test (eqb (span qa qc) 0) (λ h. rw h tt)
+    (λ h. test (eqb (span ra rc) 0) (λ k. rw (h, k) tt)
+    (λ k. rw (h, k) (at-bounded g L (scaleOf (span ra rc) (span qa qc)) qa ra
+    (scale-sized (span ra rc) (span qa qc) (lt-of-le-of-lt (sub-le rc ra) RC) (lt-of-le-of-lt (sub-le qc qa) QC) (pos-of-ne-zero (eqb-false (span qa qc) 0 h))) QA RA)))
+
+pub pair-bounded : (cfg : PanakoMatchConfig) → Accepted cfg → (qa qc ra rc : ℕ) → qa < 2 ^ 32 → qc < 2 ^ 32 → ra < 2 ^ 32 → rc < 2 ^ 32 → Bounded (cfg .«scale_bins» - 1) (pairVote cfg qa qc ra rc)
+unfolding gridOf
+pair-bounded cfg A = vote-bounded (gridOf cfg) (limited cfg A)
+
+-- what `pair_vote` promises of its result
+pub with-bounds : (g : ScaleGrid) (v : Vote) (qa qc ra rc : ℕ) → qa < 2 ^ 32 → qc < 2 ^ 32 → ra < 2 ^ 32 → rc < 2 ^ 32
+    → v ≡ voteOn g qa qc ra rc → (v ≡ voteOn g qa qc ra rc) × (Limited g → Bounded (g .«last_bin») v)
+with-bounds g v qa qc ra rc QA QC RA RC e = (e, λ L. subst (Bounded (g .«last_bin»)) (sym e) (vote-bounded g L qa qc ra rc QA QC RA RC))
+
+-- 2^39 more than an offset is a natural number of 40 bits
+pub shifted : (z : ℤ) → InRange z → (n : ℕ) × ((z +ℤ pos (2 ^ 39) ≡ pos n) × (n < 2 ^ 40))
+shifted (pos n) h = (n + 2 ^ 39, (refl, omega arith))
+shifted (negsuc n) h = (2 ^ 39 - suc n, (rw (le-ltb (2 ^ 39) (suc n) h), omega arith))

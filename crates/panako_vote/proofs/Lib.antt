@@ -1,0 +1,6 @@
+pub mod Sizes
+pub mod Bins
+pub mod Pairs
+pub mod Limits
+pub mod Bounds
+pub mod Examples
