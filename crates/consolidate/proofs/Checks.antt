@@ -10,9 +10,10 @@ use lib.Signed.{nonNeg, leZ, ltZ}
 use lib.Dec.{T, leb, ltb}
 use lib.ListN.{length}
 use borrow.Author.Tests.{leb-true, ltb-true, le-leb, lt-leb, lt-ltb}
+use Rattle.maps.specs.Bins.{offset, votes}
 use Rattle.maps.specs.Sums.{sumTo}
 use Rattle.maps.specs.Lists.{every}
-use Rattle.consolidate.specs.Box.{offset, count, votes}
+use Rattle.consolidate.specs.Box.{count}
 use Rattle.consolidate.specs.Limits.{Bins, binOk, binsOk, Span, endsOk, inSpan, spanOk}
 use Rattle.maps.proofs.Tests.{and-left, and-right, or-left, or-right, holds, is-true}
 use Rattle.maps.proofs.Lists.{every-at, every-make}

@@ -8,11 +8,12 @@ use native.Mathlib.Decide.{decLt}
 use lib.IntN.{ℤ, pos, _+ℤ_}
 use lib.Dec.{leb}
 use borrow.Author.Tests.{le-leb, lt-leb, le-ltb, lt-ltb}
+use Rattle.maps.specs.Bins.{offset, votes, place}
 use Rattle.maps.specs.Sums.{sumTo, keep}
 use Rattle.consolidate.specs.Modes.{mode, modeOr}
-use Rattle.consolidate.specs.Box.{offset, votes, within, modeNear, peakOver, between, modeBetween}
+use Rattle.consolidate.specs.Box.{within, modeNear, peakOver, between, modeBetween}
 use Rattle.consolidate.specs.Windows.{withinℕ, windowSum, Passed, Covers}
-use Rattle.consolidate.specs.Sweeping.{place, Placed, Next, Best, betterOf, Swept}
+use Rattle.consolidate.specs.Sweeping.{Placed, Next, Best, betterOf, Swept}
 use Rattle.consolidate.specs.declared.State.{State}
 use Rattle.consolidate.specs.declared.Window.{Window}
 use Rattle.maps.proofs.Sums.{sum-flat, sum-under}

@@ -11,11 +11,12 @@ use lib.Dec.{T, leb, leb→le, ltb→lt}
 use borrow.Author.Tests.{le-leb, lt-leb, lt-ltb, le-ltb, leb-false}
 use mir.Syntax.{w64}
 use mir.Val.{Fits, SFits}
+use Rattle.maps.specs.Bins.{offset, votes, place}
 use Rattle.maps.specs.Sums.{keep}
-use Rattle.consolidate.specs.Box.{offset, votes, within, window}
+use Rattle.consolidate.specs.Box.{within, window}
 use Rattle.consolidate.specs.Limits.{Bins, Span}
 use Rattle.consolidate.specs.Windows.{withinℕ, windowSum}
-use Rattle.consolidate.specs.Sweeping.{place, Placed}
+use Rattle.consolidate.specs.Sweeping.{Placed}
 use Rattle.maps.proofs.Sums.{sum-cong}
 use Rattle.maps.proofs.Signed.{abs-sub}
 use Rattle.consolidate.proofs.Signed.{leZ-trans}

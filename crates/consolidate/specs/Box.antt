@@ -6,21 +6,16 @@ use lib.IntN.{ℤ, pos, natAbs, _+ℤ_, _-ℤ_}
 use lib.Signed.{leZ}
 use lib.Dec.{leb, ltb, eqb}
 use lib.ListN.{getD}
+use Rattle.maps.specs.Bins.{offset, votes}
 use Rattle.maps.specs.Sums.{sumTo, greatest, keep}
 use Rattle.consolidate.specs.Runs.{firstGreatest, runEnd}
 use Rattle.consolidate.specs.Modes.{mode, modeOr}
 use Rattle.consolidate.specs.declared.Mode.{Mode}
 use Rattle.consolidate.specs.declared.Peak.{Peak}
 
-abbrev pub offset : List ℤ → ℕ → ℤ
-offset l i = getD l (2 * i) (pos 0)
-
+-- the word that holds the count of bin i
 abbrev pub count : List ℤ → ℕ → ℤ
 count l i = getD l (2 * i + 1) (pos 0)
-
--- the count as a natural number
-abbrev pub votes : List ℤ → ℕ → ℕ
-votes l i = natAbs (count l i)
 
 -- bin i is one of those from `from` to before `to`
 abbrev pub between : ℕ → ℕ → ℕ → Bool

@@ -7,10 +7,11 @@ use lib.IntN.{ℤ, natAbs}
 use lib.Signed.{nonNeg, leZ, ltZ}
 use lib.Dec.{T, leb, ltb}
 use lib.ListN.{length}
+use Rattle.maps.specs.Bins.{offset, votes}
 use Rattle.maps.specs.Sums.{sumTo}
 use Rattle.maps.specs.Lists.{every}
 use Rattle.consolidate.specs.Modes.{mode}
-use Rattle.consolidate.specs.Box.{offset, count, votes, boxPeak}
+use Rattle.consolidate.specs.Box.{count, boxPeak}
 use Rattle.consolidate.specs.declared.CheckedMode.{CheckedMode}
 use Rattle.consolidate.specs.declared.CheckedMode.the-variants as checked-mode
 use Rattle.consolidate.specs.declared.CheckedPeak.{CheckedPeak}

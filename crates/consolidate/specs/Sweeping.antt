@@ -4,20 +4,16 @@ use Prim.Native.Nat.{ℕ, _+_, _^_, _≤_, _<_}
 use mathlib.Core.Path.{_≡_}
 use mathlib.Core.Bool.{cond, _&&_}
 use mathlib.Core.List.{List}
-use lib.IntN.{ℤ, natAbs, _-ℤ_}
+use lib.IntN.{ℤ, _-ℤ_}
 use lib.Signed.{nonNeg}
 use lib.Dec.{T, ltb, eqb}
+use Rattle.maps.specs.Bins.{offset, votes, place}
 use Rattle.maps.specs.Sums.{sumTo}
-use Rattle.consolidate.specs.Box.{offset, votes}
 use Rattle.consolidate.specs.Limits.{Bins}
 use Rattle.consolidate.specs.Runs.{Leads}
 use Rattle.consolidate.specs.Windows.{windowSum, Slides}
 use Rattle.consolidate.specs.declared.Run.{Run}
 use Rattle.consolidate.specs.declared.State.{State}
-
--- how far bin i lies above the low end
-abbrev pub place : List ℤ → ℤ → ℕ → ℕ
-place l low i = natAbs (offset l i -ℤ low)
 
 -- n bins at ascending places
 pub record Placed (l : List ℤ) (low : ℤ) (n : ℕ) : Type 0 where

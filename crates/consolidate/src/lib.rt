@@ -7,14 +7,15 @@ ghost use lib.ListN.{length, getD};
 ghost use lib.IntN.{ℤ, pos, natAbs, _+ℤ_};
 ghost use lib.Signed.{nonNeg, leZ, ltZ};
 ghost use lib.Dec.{leb};
+ghost use Rattle.maps.specs.Bins.{offset, votes, place};
 ghost use Rattle.maps.specs.Sums.{sumTo};
 ghost use Rattle.maps.specs.Lists.{every};
 ghost use Rattle.consolidate.specs.Modes.{ceil, nearestMean, modeOr};
-ghost use Rattle.consolidate.specs.Box.{offset, votes, modeBetween, modeNear, peakOver, boxPeak};
+ghost use Rattle.consolidate.specs.Box.{modeBetween, modeNear, peakOver, boxPeak};
 ghost use Rattle.consolidate.specs.Limits.{Bins, binOk, binsOk, Span, endsOk, inSpan, spanOk, checkedMode, checkedPeak};
 ghost use Rattle.consolidate.specs.Windows.{windowSum, Passed, Slides, Covers};
 ghost use Rattle.consolidate.specs.Tallies.{tallyOf};
-ghost use Rattle.consolidate.specs.Sweeping.{place, Placed, Next, betterOf, Swept};
+ghost use Rattle.consolidate.specs.Sweeping.{Placed, Next, betterOf, Swept};
 
 // The offset that is reported for a peak, if there is one.
 pub enum Mode {

@@ -6,12 +6,13 @@ use lib.IntN.{ℤ, pos, negsuc}
 use lib.Dec.{eqb}
 use lib.ListN.{length}
 use lib.Ieee.{Float, binary32, binary64, ofBits, ofInt, toBits}
+use Rattle.maps.specs.Bins.{offset, votes}
 use Rattle.floats.specs.Rounding.{roundToI64}
 use Rattle.consolidate.specs.declared.Mode.{Mode}
 use Rattle.consolidate.specs.declared.Mode.the-variants.{At, Nothing}
 use Rattle.consolidate.specs.declared.Peak.{Peak}
 use Rattle.consolidate.specs.Modes.{mode}
-use Rattle.consolidate.specs.Box.{offset, votes, boxPeak}
+use Rattle.consolidate.specs.Box.{boxPeak}
 use Rattle.hough.specs.Hough as Hough
 use Rattle.hough.specs.Hough.{houghPeak, peakOffset}
 use Rattle.matching.specs.Offsets.{millis}

@@ -4,8 +4,7 @@ use borrow.Author.Needs.{needs}
 use mir.Syntax.{w64}
 use mir.Val.{toZ}
 use mir.ValLaws.{toZ-ofZ}
-use Rattle.consolidate.specs.Box.{votes}
-use Rattle.consolidate.specs.Sweeping.{place}
+use Rattle.maps.specs.Bins.{votes, place}
 use Rattle.consolidate.proofs.Sliding.{Passing, passing-none, passing-fits, passing-more, passed}
 use Rattle.consolidate.proofs.advance.Statement.{statement}
 use Rattle.consolidate.proofs.advance.Tie as tie

@@ -2,8 +2,9 @@ use mathlib.Core.Path.{refl, sym, ap, _∙_}
 use mathlib.Core.Bool.{Bool}
 use native.Mathlib.Omega.{arith}
 use borrow.Author.Needs.{needs}
+use Rattle.maps.specs.Bins.{offset, votes}
 use Rattle.maps.specs.Sums.{keep}
-use Rattle.consolidate.specs.Box.{offset, votes, between}
+use Rattle.consolidate.specs.Box.{between}
 use Rattle.consolidate.specs.Limits.{checkedMode}
 use Rattle.consolidate.proofs.Tallies.{mode-cong}
 use Rattle.consolidate.proofs.Peaks.{on-between}

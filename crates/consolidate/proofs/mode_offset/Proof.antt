@@ -6,8 +6,9 @@ use borrow.Author.Needs.{needs}
 use lib.IntN.{natAbs}
 use mir.Syntax.{w64}
 use mir.ValLaws.{toZ-ofZ}
+use Rattle.maps.specs.Bins.{offset, votes}
 use Rattle.maps.specs.Sums.{keep}
-use Rattle.consolidate.specs.Box.{offset, votes, between}
+use Rattle.consolidate.specs.Box.{between}
 use Rattle.maps.proofs.Signed.{fits-abs}
 use Rattle.consolidate.proofs.Tallies.{Tallied, tally-none, tally-more, tally-gap, tally-small, mode-none, mode-some}
 use Rattle.consolidate.proofs.Peaks.{off-before, off-after, on-between}

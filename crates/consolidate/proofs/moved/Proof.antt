@@ -3,9 +3,8 @@ use native.Mathlib.Omega.{arith}
 use borrow.Author.Needs.{needs}
 use mir.Syntax.{w64}
 use mir.ValLaws.{toZ-ofZ}
-use Rattle.consolidate.specs.Box.{votes}
+use Rattle.maps.specs.Bins.{votes, place}
 use Rattle.consolidate.specs.Windows.{Passed}
-use Rattle.consolidate.specs.Sweeping.{place}
 use Rattle.consolidate.proofs.Sliding.{slide-fits, slid}
 use Rattle.consolidate.proofs.moved.Statement.{statement}
 use Rattle.consolidate.proofs.moved.Tie as tie

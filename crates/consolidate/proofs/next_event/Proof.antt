@@ -4,8 +4,7 @@ use mathlib.Core.Path.{_≡_}
 use native.Mathlib.Omega.{arith}
 use mir.Syntax.{w64}
 use mir.ValLaws.{toZ-ofZ}
-use Rattle.consolidate.specs.Box.{votes}
-use Rattle.consolidate.specs.Sweeping.{place}
+use Rattle.maps.specs.Bins.{votes, place}
 use Rattle.consolidate.proofs.Sliding.{next-is}
 use Rattle.consolidate.proofs.next_event.Statement.{statement}
 use Rattle.consolidate.proofs.next_event.Tie as tie

@@ -4,10 +4,10 @@ use mathlib.Core.Path.{_≡_}
 use native.Mathlib.Omega.{arith}
 use mir.Syntax.{w64}
 use mir.ValLaws.{toZ-ofZ}
+use Rattle.maps.specs.Bins.{votes, place}
 use Rattle.maps.specs.Sums.{sumTo}
-use Rattle.consolidate.specs.Box.{votes}
 use Rattle.consolidate.specs.Windows.{windowSum}
-use Rattle.consolidate.specs.Sweeping.{place, Best, Swept}
+use Rattle.consolidate.specs.Sweeping.{Best, Swept}
 use Rattle.consolidate.proofs.Peaks.{answer}
 use Rattle.consolidate.proofs.peak_over.Statement.{statement}
 use Rattle.consolidate.proofs.peak_over.Tie as tie

@@ -2,9 +2,9 @@ use borrow.Author.Needs.{needs}
 use native.Mathlib.Omega.{arith}
 use mir.Syntax.{w64}
 use mir.ValLaws.{toZ-ofZ}
-use Rattle.consolidate.specs.Box.{votes}
+use Rattle.maps.specs.Bins.{votes, place}
 use Rattle.consolidate.specs.Windows.{Covers}
-use Rattle.consolidate.specs.Sweeping.{place, Next}
+use Rattle.consolidate.specs.Sweeping.{Next}
 use Rattle.consolidate.proofs.Peaks.{step-sums, step-small, stepped}
 use Rattle.consolidate.proofs.step.Statement.{statement}
 use Rattle.consolidate.proofs.step.Tie as tie

@@ -3,8 +3,8 @@ use native.Mathlib.Omega.{arith}
 use mir.Syntax.{w64}
 use mir.Val.{toZ}
 use mir.ValLaws.{toZ-ofZ}
-use Rattle.consolidate.specs.Box.{votes}
-use Rattle.consolidate.specs.Sweeping.{place, Swept}
+use Rattle.maps.specs.Bins.{votes, place}
+use Rattle.consolidate.specs.Sweeping.{Swept}
 use Rattle.consolidate.proofs.Peaks.{swept-none}
 use Rattle.consolidate.proofs.sweep.Statement.{statement}
 use Rattle.consolidate.proofs.sweep.Tie as tie
