@@ -1,0 +1,161 @@
+-- Demand 3 of the model's calls: the claim about every list of calls on one store. Assumes nothing.
+use mathlib.Core.Path.{_≡_, refl, sym, ap, _∙_}
+use mathlib.Core.Bool.{Bool, true, false, cond, not}
+use mathlib.Core.List.{List, [], _∷_, _++_}
+use mathlib.Core.Option.{Option, none, some}
+use Prim.Native.Nat.{ℕ, _-_, _≤_}
+use native.Mathlib.Omega.{arith}
+use lib.ListN.{length, getD}
+use Rattle.lists.proofs.Tests.{maybe, or-false-right}
+use Rattle.model.specs.Fingerprints.{Fingerprint, fingerprintOf, fingerprintsOf, malformed, malformedBuild, referenceMost}
+use Rattle.model.specs.Rows.{Row}
+use Rattle.model.specs.Index.{nextId, newId, isLive, inserted, erased}
+use Rattle.model.specs.Query.{Scheme, Query, Catalog, catalog, tooManyVotes}
+use Rattle.model.specs.Calls.{Sizes, Store, holds, content, isUnlisted, Answer, stored, removed, count, Call, build, insert, remove, liveCount, query, refusal, buildTests, insertTests, plainTests, scratchListed, queryTests, outcome, buildStep, insertStep, removeStep, countStep, queryStep, answerOf, step}
+use Rattle.model.specs.Sound.{SoundStore}
+use Rattle.model.specs.History.{withRecording, withoutRecording, storedId, withRecordingIf, after, leaves, answers, replay, history, answerFrom}
+use Rattle.model.specs.Claim.{Accepted, KeysKept, OldOrNew, AfterInsert, AfterRemove, At, Demand3, FromHistory}
+use Rattle.model.proofs.Agree.{best-same, many-same}
+use Rattle.model.proofs.Fingerprints.{WideHashes, wide-hashes}
+use Rattle.model.proofs.Preserved.{sound-store, none-applies, not-refused, newId-le, newId-dead, Inv, inv-inserted, inv-erased, start-inv, calls-inv}
+use Rattle.model.proofs.Change.{candidate-others, candidate-vacant, best-further, found, old-or-new, found-without, many-without}
+
+-- ---- lists of calls, one call more
+
+module _ (S : Scheme) {T : Type 0} (run : T → Call S → Answer × T) where
+  pub leaves-snoc : (t : T) (xs : List (Call S)) (x : Call S) → leaves S run t (xs ++ x ∷ []) ≡ run (leaves S run t xs) x .1
+  unfolding leaves
+  leaves-snoc t [] x = refl
+  leaves-snoc t (y ∷ ys) x = leaves-snoc (run t y .1) ys x
+
+  pub history-snoc : (c : Catalog) (t : T) (xs : List (Call S)) (x : Call S)
+      → history S run c t (xs ++ x ∷ []) ≡ after S (history S run c t xs) x (run (leaves S run t xs) x .0)
+  unfolding leaves answers replay
+  history-snoc c t [] x = refl
+  history-snoc c t (y ∷ ys) x = history-snoc (after S c y (run t y .0)) (run t y .1) ys x
+
+module _ (S : Scheme) (z : Sizes) (w2 : 2 ≤ S .width) where
+  abbrev w : ℕ
+  w = S .width
+
+  -- ---- an accepted query
+
+  accepted : (s : Store) (q : Query S) → Accepted (queryStep S s q .0) → refusal (queryTests S s q) ≡ none
+  unfolding queryStep
+  accepted s q h = maybe (refusal (queryTests S s q)) (λ e. e) (λ n e. absurd (h n (rw e)))
+
+  -- the store's answer is the catalog's
+  answered : (s : Store) (c : Catalog) → Inv w z s c → (q : Query S) → refusal (queryTests S s q) ≡ none → queryStep S s q .0 ≡ found S q c
+  unfolding queryStep
+  answered s c I q e = rw e (ap answerOf (best-same S (I .agrees) q))
+
+  -- ---- insert
+
+  insert-core : (s : Store) (c : Catalog) → Inv w z s c → (limit : ℕ) (f : Fingerprint) → KeysKept c (withRecording w limit f (newId (content s)) c) (newId (content s))
+      → (q : Query S) → OldOrNew S q (withRecording w limit f (newId (content s)) c) (newId (content s)) (found S q c) (found S q (withRecording w limit f (newId (content s)) c))
+  unfolding withRecording
+  insert-core s c I limit f kept q =
+      old-or-new S q c (withRecording w limit f (newId (content s)) c) (newId (content s))
+      (candidate-vacant S q c (newId (content s)) vacant)
+      (candidate-others S q c limit f (newId (content s)) (I .clean) kept)
+      (omega arith)
+      (best-further S q c (newId (content s)) vacant (c .size) fits)
+    where
+      vacant : c .live (newId (content s)) ≡ none
+      vacant = sym (I .agrees .live (newId (content s))) ∙ newId-dead w z (content s) (I .sound)
+
+      fits : newId (content s) ≤ c .size
+      fits = omega (arith, newId-le w z (content s) (I .sound), I .agrees .size)
+
+  after-insert : (s : Store) (c : Catalog) → Inv w z s c → (limit : ℕ) (f : Fingerprint)
+      → Inv w z (holds (inserted w limit f (content s))) (withRecording w limit f (newId (content s)) c)
+      → AfterInsert S (λ q. queryStep S s q .0) (λ q. queryStep S (holds (inserted w limit f (content s))) q .0) c (withRecording w limit f (newId (content s)) c) (newId (content s))
+  after-insert s c I limit f J kept q h k =
+      let t : Store = holds (inserted w limit f (content s)) in
+      rw (answered s c I q (accepted s q h), answered t (withRecording w limit f (newId (content s)) c) J q (accepted t q k))
+      (insert-core s c I limit f kept q)
+
+  at-insert : (s : Store) (c : Catalog) → Inv w z s c → (bad : Bool) (limit : ℕ) (f : Fingerprint) → WideHashes w (f .hashes) → (o : Option ℕ) → refusal (insertTests z s bad limit f) ≡ o → (id : ℕ)
+      → outcome o s (stored (newId (content s))) (holds (inserted w limit f (content s))) .0 ≡ stored id
+      → AfterInsert S (λ q. queryStep S s q .0) (λ q. queryStep S (outcome o s (stored (newId (content s))) (holds (inserted w limit f (content s))) .1) q .0) c
+      (withRecordingIf w limit f (storedId (outcome o s (stored (newId (content s))) (holds (inserted w limit f (content s))) .0)) c) id
+  at-insert s c I bad limit f wide (some n) g id e = let m : _≡_ {A = ℕ} 0 1 = cc in absurd (omega arith)
+  at-insert s c I bad limit f wide none g id e =
+      let i : id ≡ newId (content s) = cc in
+      rw i (after-insert s c I limit f (inv-inserted w z w2 s c I bad limit f wide g))
+
+  -- ---- remove
+
+  tests-again : (s : Store) (id : ℕ) (q : Query S) → (tooManyVotes S q (catalog (content s)) ≡ false → tooManyVotes S q (catalog (erased id (content s))) ≡ false)
+      → refusal (queryTests S s q) ≡ none → refusal (queryTests S (holds (erased id (content s))) q) ≡ none
+  unfolding queryTests
+  tests-again s id q many h =
+      let t = none-applies (queryTests S s q) h in
+      not-refused (queryTests S (holds (erased id (content s))) q) (or-false-right (isUnlisted s) (not (scratchListed S q)) (t 1), (refl, (t 3, (t 4, (many (t 8), tt)))))
+
+  after-remove : (s : Store) (c : Catalog) → Inv w z s c → (id : ℕ) → isLive (getD (content s .rows) id none) ≡ true
+      → AfterRemove S (λ q. queryStep S s q .0) (λ q. queryStep S (holds (erased id (content s))) q .0) id
+  after-remove s c I id p q h k = (λ n g. h n (sym same ∙ g), same)
+    where
+      J : Inv w z (holds (erased id (content s))) (withoutRecording id c)
+      J = inv-erased w z w2 s c I id p
+
+      old : queryStep S s q .0 ≡ found S q c
+      old = answered s c I q (accepted s q h)
+
+      many : tooManyVotes S q (catalog (content s)) ≡ false → tooManyVotes S q (catalog (erased id (content s))) ≡ false
+      many g = many-same S (J .agrees) q ∙ many-without S q c id (sym (many-same S (I .agrees) q) ∙ g)
+
+      again : refusal (queryTests S (holds (erased id (content s))) q) ≡ none
+      again = tests-again s id q many (accepted s q h)
+
+      same : queryStep S (holds (erased id (content s))) q .0 ≡ queryStep S s q .0
+      same = answered (holds (erased id (content s))) (withoutRecording id c) J q again ∙ found-without S q c id (λ r g. k r (old ∙ g)) ∙ sym old
+
+  at-remove : (s : Store) (c : Catalog) → Inv w z s c → (id : ℕ) (o : Option ℕ) (live : Bool) → isLive (getD (content s .rows) id none) ≡ live
+      → outcome o s (removed live) (cond live (holds (erased id (content s))) s) .0 ≡ removed true
+      → AfterRemove S (λ q. queryStep S s q .0) (λ q. queryStep S (outcome o s (removed live) (cond live (holds (erased id (content s))) s) .1) q .0) id
+  at-remove s c I id (some n) live p e = let m : _≡_ {A = ℕ} 0 1 = cc in absurd (omega arith)
+  at-remove s c I id none false p e = let m : _≡_ {A = ℕ} 0 1 = cc in absurd (omega arith)
+  at-remove s c I id none true p e = after-remove s c I id p
+
+  -- ---- wherever in the list
+
+  at : (s : Store) (c : Catalog) → Inv w z s c → (x : Call S)
+      → At S (λ q. queryStep S s q .0) (λ q. queryStep S (step S z s x .1) q .0) c (after S c x (step S z s x .0)) (step S z s x .0) x
+  unfolding insertStep removeStep after
+  at s c I (insert limit rate words) =
+      at-insert s c I (malformed w referenceMost words) limit (fingerprintOf w rate words) (wide-hashes w w2 words)
+      (refusal (insertTests z s (malformed w referenceMost words) limit (fingerprintOf w rate words))) refl
+  at s c I (remove id) = at-remove s c I id (refusal (plainTests s)) (isLive (getD (content s .rows) id none)) refl
+  at s c I (build limit words lengths rates) = tt
+  at s c I liveCount = tt
+  at s c I (query q) = tt
+
+  pub demand3 : (s : Store) → SoundStore w z s → (calls : List (Call S)) → Demand3 S (step S z) (catalog (content s)) s calls
+  demand3 s h calls before x rest e =
+      rw (leaves-snoc S (step S z) s before x, history-snoc S (step S z) (catalog (content s)) s before x)
+      (at (leaves S (step S z) s before) (history S (step S z) (catalog (content s)) s before) (calls-inv S z w2 s (catalog (content s)) (start-inv w z w2 s h) before) x)
+
+  -- ---- what else the history says
+
+  -- a sound store stays sound
+  pub stays-sound : (s : Store) → SoundStore w z s → (calls : List (Call S)) → SoundStore w z (leaves S (step S z) s calls)
+  stays-sound s h calls = sound-store w z (leaves S (step S z) s calls) (calls-inv S z w2 s (catalog (content s)) (start-inv w z w2 s h) calls .sound)
+
+  -- an accepted call answers what the catalog says
+  from-catalog : (s : Store) (c : Catalog) → Inv w z s c → (x : Call S) → Accepted (step S z s x .0) → step S z s x .0 ≡ answerFrom S c x
+  unfolding buildStep insertStep removeStep countStep queryStep
+  from-catalog s c I (build limit words lengths rates) h = maybe (refusal (buildTests z s (malformedBuild w words lengths rates) limit (fingerprintsOf w words lengths rates))) (λ e. rw e) (λ n e. absurd (h n (rw e)))
+  from-catalog s c I (insert limit rate words) h = maybe (refusal (insertTests z s (malformed w referenceMost words) limit (fingerprintOf w rate words)))
+      (λ e. rw e (ap stored (ap (λ (v : List ℕ). nextId v (length (content s .rows))) (I .agrees .vacant) ∙ ap (nextId (c .vacant)) (I .agrees .size))))
+      (λ n e. absurd (h n (rw e)))
+  from-catalog s c I (remove id) h = maybe (refusal (plainTests s)) (λ e. rw e (ap (λ (o : Option Row). removed (isLive o)) (I .agrees .live id))) (λ n e. absurd (h n (rw e)))
+  from-catalog s c I liveCount h = maybe (refusal (plainTests s))
+      (λ e. rw e (ap (λ (n : ℕ). count (n - length (content s .vacant))) (I .agrees .size) ∙ ap (λ (v : List ℕ). count (c .size - length v)) (I .agrees .vacant)))
+      (λ n e. absurd (h n (rw e)))
+  from-catalog s c I (query q) h = answered s c I q (accepted s q h)
+
+  pub from-history : (s : Store) → SoundStore w z s → FromHistory S (step S z) (catalog (content s)) s
+  from-history s h before x k =
+      from-catalog (leaves S (step S z) s before) (history S (step S z) (catalog (content s)) s before) (calls-inv S z w2 s (catalog (content s)) (start-inv w z w2 s h) before) x k

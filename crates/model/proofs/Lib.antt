@@ -1,0 +1,19 @@
+-- The claim about histories, and what leads to it.
+pub mod Words
+pub mod Facts
+pub mod Written
+pub mod Slices
+pub mod Read
+pub mod Stores
+pub mod Fingerprints
+pub mod Parts
+pub mod Best
+pub mod Agree
+pub mod Preserved
+pub mod Change
+pub mod Demand3
+pub mod Run
+pub mod Claim
+pub mod Loading
+pub mod Vacant
+pub mod Alike

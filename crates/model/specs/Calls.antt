@@ -1,0 +1,150 @@
+-- The five calls: what each answers and leaves, refused ones included. Definitions only. Assumes nothing.
+use mathlib.Core.Bool.{Bool, true, false, cond, not, _&&_, _||_}
+use mathlib.Core.List.{List, [], _∷_}
+use mathlib.Core.Option.{Option, none, some}
+use Prim.Native.Nat.{ℕ, _+_, _-_, _/_, _%_}
+use lib.ListN.{length, getD}
+use lib.Dec.{eqb, leb, ltb}
+use Rattle.matching.specs.declared.MatchResult.{MatchResult}
+use Rattle.model.specs.Fingerprints.{Fingerprint, fingerprintOf, fingerprintsOf, referenceMost, queryMost, malformed, malformedBuild}
+use Rattle.model.specs.Index.{Index, empty, posted, numbered, unskipped, isStopped, stoppedAfter, newId, isLive, inserted, builtFrom, erased}
+use Rattle.model.specs.Query.{Scheme, Query, catalog, tooManyVotes, bestOf}
+
+-- how many rows, postings and stopped keys the store has room for
+pub record Sizes : Type 0 where
+  pub R : ℕ
+  pub P : ℕ
+  pub K : ℕ
+
+-- a lent store: the length of a slice is none of those listed; or it is unsound; or it is sound, and this is what it holds
+pub data Store : Type 0 where
+  unlisted : Store
+  unsound : Store
+  holds : Index → Store
+
+abbrev pub isUnlisted : Store → Bool
+isUnlisted unlisted = true
+isUnlisted unsound = false
+isUnlisted (holds x) = false
+
+abbrev pub isUnsound : Store → Bool
+isUnsound unlisted = false
+isUnsound unsound = true
+isUnsound (holds x) = false
+
+abbrev pub content : Store → Index
+content unlisted = empty
+content unsound = empty
+content (holds x) = x
+
+-- "Every answer is a case: built, stored with an id, removed yes or no, a live count, best with its result, none, or refused with a number."
+pub data Answer : Type 0 where
+  built : Answer
+  stored : ℕ → Answer
+  removed : Bool → Answer
+  count : ℕ → Answer
+  best : ℕ → MatchResult → Answer
+  nothing : Answer
+  refused : ℕ → Answer
+
+-- a call with what is lent to it beside the store: the stop limit, the words of hashes, their lengths, rates as words
+pub data Call (S : Scheme) : Type 0 where
+  build : (limit : ℕ) (words lengths rates : List ℕ) → Call S
+  insert : (limit rate : ℕ) (words : List ℕ) → Call S
+  remove : (id : ℕ) → Call S
+  liveCount : Call S
+  query : Query S → Call S
+
+-- ── refusals: for each call a table of numbers and tests, in the order in which they are looked at ──
+
+-- "The lowest number that applies is returned."
+abbrev pub refusal : List (ℕ × Bool) → Option ℕ
+refusal [] = none
+refusal (e ∷ es) = cond (e .1) (some (e .0)) (refusal es)
+
+-- "build: more than R references"; "build: p = 0, nothing stopped"; "stopped keys after the call would exceed K"
+unfoldable pub buildTests : Sizes → Store → Bool → ℕ → List Fingerprint → List (ℕ × Bool)
+buildTests z s bad limit fs =
+    (1, isUnlisted s)
+    ∷ (3, bad)
+    ∷ (5, ltb (z .R) (length fs))
+    ∷ (6, ltb (z .P) (length (numbered 0 fs)))
+    ∷ (7, ltb (z .K) (length (stoppedAfter limit empty (numbered 0 fs))))
+    ∷ []
+
+-- "insert: v = 0 and n = R"; "p + m > P, m being the hashes whose key isn't stopped"; "stopped keys after the call would exceed K"
+unfoldable pub insertTests : Sizes → Store → Bool → ℕ → Fingerprint → List (ℕ × Bool)
+insertTests z s bad limit f =
+    let x = content s in
+    let new = posted (newId x) (f .hashes) in
+    (1, isUnlisted s)
+    ∷ (2, isUnsound s)
+    ∷ (3, bad)
+    ∷ (5, eqb (length (x .vacant)) 0 && eqb (length (x .rows)) (z .R))
+    ∷ (6, ltb (z .P) (length (x .postings) + length (unskipped (isStopped x) new)))
+    ∷ (7, ltb (z .K) (length (stoppedAfter limit x new)))
+    ∷ []
+
+-- of remove and live_count
+unfoldable pub plainTests : Store → List (ℕ × Bool)
+plainTests s = (1, isUnlisted s) ∷ (2, isUnsound s) ∷ []
+
+-- "Scratch of i64: 6 words a vote (Wang), 12 (Panako), whole votes only, 0 to 1,000,000 votes."
+unfoldable pub scratchListed : (S : Scheme) → Query S → Bool
+scratchListed S q = eqb (q .scratch % S .voteWords) 0 && leb (q .scratch / S .voteWords) 1000000
+
+unfoldable pub queryTests : (S : Scheme) → Store → Query S → List (ℕ × Bool)
+queryTests S s q =
+    (1, isUnlisted s || not (scratchListed S q))
+    ∷ (2, isUnsound s)
+    ∷ (3, malformed (S .width) queryMost (q .words))
+    ∷ (4, S .beyond (q .ask))
+    ∷ (8, tooManyVotes S q (catalog (content s)))
+    ∷ []
+
+-- ── what each call answers and leaves ──
+
+abbrev pub Outcome : Type 0
+Outcome = Answer × Store
+
+-- refused, and "all lent memory unchanged"; else the answer, and what is left
+abbrev pub outcome : Option ℕ → Store → Answer → Store → Outcome
+outcome (some n) s a t = (refused n, s)
+outcome none s a t = (a, t)
+
+-- "`build` overwrites any content."
+unfoldable pub buildStep : ℕ → Sizes → Store → ℕ → List ℕ → List ℕ → List ℕ → Outcome
+buildStep w z s limit words lengths rates =
+    let fs = fingerprintsOf w words lengths rates in
+    outcome (refusal (buildTests z s (malformedBuild w words lengths rates) limit fs)) s built (holds (builtFrom w limit fs))
+
+unfoldable pub insertStep : ℕ → Sizes → Store → ℕ → ℕ → List ℕ → Outcome
+insertStep w z s limit rate words =
+    let f = fingerprintOf w rate words in
+    outcome (refusal (insertTests z s (malformed w referenceMost words) limit f)) s (stored (newId (content s))) (holds (inserted w limit f (content s)))
+
+-- "`remove` of an id that isn't live answers no and changes nothing."
+unfoldable pub removeStep : Store → ℕ → Outcome
+removeStep s id =
+    let live = isLive (getD (content s .rows) id none) in
+    outcome (refusal (plainTests s)) s (removed live) (cond live (holds (erased id (content s))) s)
+
+-- "live_count is n − v"
+unfoldable pub countStep : Store → Outcome
+countStep s = outcome (refusal (plainTests s)) s (count (length (content s .rows) - length (content s .vacant))) s
+
+-- "best with its result, none"
+abbrev pub answerOf : Option (ℕ × MatchResult) → Answer
+answerOf none = nothing
+answerOf (some b) = best (b .0) (b .1)
+
+-- "A query doesn't change the store"
+unfoldable pub queryStep : (S : Scheme) → Store → Query S → Outcome
+queryStep S s q = outcome (refusal (queryTests S s q)) s (answerOf (bestOf S q (catalog (content s)))) s
+
+abbrev pub step : (S : Scheme) → Sizes → Store → Call S → Outcome
+step S z s (build limit words lengths rates) = buildStep (S .width) z s limit words lengths rates
+step S z s (insert limit rate words) = insertStep (S .width) z s limit rate words
+step S z s (remove id) = removeStep s id
+step S z s liveCount = countStep s
+step S z s (query q) = queryStep S s q

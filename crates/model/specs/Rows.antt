@@ -1,0 +1,48 @@
+-- A recording's row. w is the width of a posting: 3 for Wang, and anything else for an index whose rows have no r_max.
+-- Definitions only. Assumes nothing.
+use mathlib.Core.Bool.{Bool, cond, not, _&&_, _||_}
+use mathlib.Core.List.{List, [], _∷_}
+use Prim.Native.Nat.{ℕ, max}
+use lib.ListN.{getD}
+use lib.Dec.{eqb, leb}
+use lib.Ieee.{binary32, nanBits}
+use Rattle.model.specs.Fingerprints.{Hash, Fingerprint}
+
+-- what a live row says: the word of its rate's bits, and r_max
+pub record Row : Type 0 where
+  pub rate : ℕ
+  pub rmax : ℕ
+
+abbrev pub isWang : ℕ → Bool
+isWang w = eqb w 3
+
+abbrev pub anchor : Hash → ℕ
+anchor h = getD (h .times) 0 0
+
+-- the largest t_anchor, "0 if there are none"
+unfoldable pub largestAnchor : List Hash → ℕ
+largestAnchor [] = 0
+largestAnchor (h ∷ hs) = max (anchor h) (largestAnchor hs)
+
+-- the rate of a dead row, and of a live one that is a NaN
+abbrev pub noRate : ℕ
+noRate = 0x7FC0_0000
+
+-- "a live NaN rate is stored as that word"
+unfoldable pub canonical : ℕ → ℕ
+canonical rate = cond (nanBits binary32 rate) noRate rate
+
+unfoldable pub isCanonical : ℕ → Bool
+isCanonical rate = not (nanBits binary32 rate) || eqb rate noRate
+
+-- the row of a fingerprint. "A Wang row's r_max is the largest t_anchor of all hashes, skipped ones included"; "Panako r_max is 0"
+unfoldable pub rowOf : ℕ → Fingerprint → Row
+rowOf w f = record { rate = canonical (f .rate); rmax = cond (isWang w) (largestAnchor (f .hashes)) 0 }
+
+-- what a sound store asks of a live row: "a live NaN rate is stored as that word", "Panako r_max is 0"
+unfoldable pub rowSound : ℕ → Row → Bool
+rowSound w r = isCanonical (r .rate) && (isWang w || eqb (r .rmax) 0)
+
+-- and of a hash that the recording holds: "a Wang posting's anchor is at most its row's r_max"
+unfoldable pub hashSound : ℕ → Row → Hash → Bool
+hashSound w r h = not (isWang w) || leb (anchor h) (r .rmax)

@@ -1,0 +1,131 @@
+-- Entries that are left out: what stands after i entries have been read and q of them stay. Assumes nothing.
+use mathlib.Core.Path.{_≡_, refl, sym, ap, _∙_}
+use mathlib.Core.Logic.{⊎-elim}
+use mathlib.Core.Bool.{true, false}
+use mathlib.Core.List.{List, [], _++_, append-nil, append-assoc}
+use Prim.Native.Nat.{ℕ, _+_, _*_, _-_, _≤_, _<_, min}
+use native.Mathlib.Nat.{mul-le-mul-left, mul-zero, mul-add}
+use native.Mathlib.Numerals.{add-one}
+use native.Mathlib.Omega.{arith}
+use lib.ListN.{length, getD, take, drop, length-append}
+use lib.Seq.{drop-drop, getD-drop, length-take-le}
+use Rattle.lists.specs.Lists.{keep, member, flat}
+use Rattle.lists.specs.Entries.{entries, entryAt, padded}
+use Rattle.lists.proofs.Tests.{le-or-lt}
+use Rattle.lists.proofs.Keep.{keep-append, keep-all, flat-append, all-make}
+use Rattle.lists.proofs.Entries.{stride-more, entries-append, entries-at, length-entries, entry-word, flat-entries, keep-suc}
+use Rattle.postings.specs.Retain.{moved, cleared, unnamed, staying, retained, Within, Until}
+use Rattle.postings.proofs.Moves.{length-moved, take-moved, drop-behind}
+
+-- s is s₀ after i of its entries: those that stay stand in front, in q entries, and what stands behind the i is as it was
+pub record Done (w f : ℕ) (xs s₀ s : List ℕ) (i q : ℕ) : Type 0 where
+  pub len : length s ≡ length s₀
+  pub few : q ≤ i
+  pub front : take (w * q) s ≡ flat (staying w i f xs s₀)
+  pub back : drop (w * i) s ≡ drop (w * i) s₀
+  pub many : q ≡ length (staying w i f xs s₀)
+
+pub done-none : (w f : ℕ) (xs s : List ℕ) → Done w f xs s s 0 0
+unfolding staying entries keep flat
+done-none w f xs s = record { len = refl; few = omega arith; front = rw mul-zero; back = refl; many = refl }
+
+-- an entry's word from the words, and its test
+stays : (w f : ℕ) (xs s : List ℕ) (i : ℕ) → f < w → member (getD s (w * i + f) 0) xs ≡ false → unnamed f xs (entryAt w i s) ≡ true
+unfolding unnamed
+stays w f xs s i h e = rw (entry-word w i s f h, e)
+
+goes : (w f : ℕ) (xs s : List ℕ) (i : ℕ) → f < w → member (getD s (w * i + f) 0) xs ≡ true → unnamed f xs (entryAt w i s) ≡ false
+unfolding unnamed
+goes w f xs s i h e = rw (entry-word w i s f h, e)
+
+-- a run of entries that stay
+staying-run : (w f : ℕ) (xs s : List ℕ) (i m : ℕ) → ((j : ℕ) → j < m → unnamed f xs (entryAt w (i + j) s) ≡ true)
+    → staying w (i + m) f xs s ≡ staying w i f xs s ++ entries w m (drop (w * i) s)
+unfolding staying
+staying-run w f xs s i m h =
+    let back = drop (w * i) s in
+    rw (entries-append w i m s, keep-append (unnamed f xs) (entries w i s) (entries w m back))
+    (ap (λ (l : List (List ℕ)). keep (unnamed f xs) (entries w i s) ++ l)
+    (keep-all (unnamed f xs) (entries w m back) (all-make (λ e. unnamed f xs e ≡ true) (entries w m back) [] (λ j lt.
+    let l : j < m = omega (arith, length-entries w m back) in
+    rw (entries-at w m back j l, drop-drop (w * j) (w * i) s, ← mul-add w i j) (h j l)))))
+
+-- an entry that goes
+staying-skip : (w f : ℕ) (xs s : List ℕ) (i : ℕ) → unnamed f xs (entryAt w i s) ≡ false → staying w (i + 1) f xs s ≡ staying w i f xs s
+unfolding staying
+staying-skip w f xs s i e = rw (add-one i) (keep-suc (unnamed f xs) w s i ∙ rw (e, append-nil))
+
+module _ (w f : ℕ) (xs s₀ s : List ℕ) (p i q : ℕ) (within : Within w p f s₀ 0) (ip : i < p) (d : Done w f xs s₀ s i q) where
+  -- words behind entry i are as they were
+  same-word : (j : ℕ) → i ≤ j → getD s (w * j + f) 0 ≡ getD s₀ (w * j + f) 0
+  same-word j h =
+      let m = mul-le-mul-left w h in
+      let e : w * j + f ≡ w * i + (w * j + f - w * i) = omega arith in
+      rw e (sym (getD-drop (w * i) s (w * j + f - w * i) 0)
+      ∙ ap (λ (l : List ℕ). getD l (w * j + f - w * i) 0) (d .back)
+      ∙ getD-drop (w * i) s₀ (w * j + f - w * i) 0)
+
+  module _ (e : ℕ) (u : Until (λ x. member x xs) w p f s i e) where
+    abbrev run : ℕ
+    run = e - i
+
+    place : i + run ≡ e
+    place = omega (arith, u .since)
+
+    words : w * i + w * run ≡ w * e
+    words = sym (mul-add w i run) ∙ ap (λ (n : ℕ). w * n) place
+
+    pub low : w * q ≤ w * i
+    low = mul-le-mul-left w (d .few)
+
+    pub high : w * i + w * run ≤ length s
+    high = rw (words, d .len) (omega (arith, mul-le-mul-left w (u .within), within .room))
+
+    -- the run is moved
+    abbrev after : List ℕ
+    after = moved s (w * q) (w * i) (w * run)
+
+    run-stays : staying w e f xs s₀ ≡ staying w i f xs s₀ ++ entries w run (drop (w * i) s₀)
+    run-stays = rw place at (staying-run w f xs s₀ i run (λ j l.
+        stays w f xs s₀ (i + j) (within .field) (sym (ap (λ (x : ℕ). member x xs) (same-word (i + j) (omega arith))) ∙ u .before (i + j) (omega arith) (omega arith))))
+
+    ran : Done w f xs s₀ after e (q + run)
+    ran = record {
+      len = length-moved s (w * q) (w * i) (w * run) low high (w * run) (omega arith) ∙ d .len;
+      few = omega (arith, d .few, u .since);
+      front =
+          rw (mul-add w q run)
+          (take-moved s (w * q) (w * i) (w * run) low high
+          ∙ ap (λ (l : List ℕ). l ++ take (w * run) (drop (w * i) s)) (d .front)
+          ∙ ap (λ (l : List ℕ). flat (staying w i f xs s₀) ++ take (w * run) l) (d .back)
+          ∙ sym (ap flat run-stays ∙ flat-append (staying w i f xs s₀) (entries w run (drop (w * i) s₀))
+          ∙ ap (λ (l : List ℕ). flat (staying w i f xs s₀) ++ l) (flat-entries w run (drop (w * i) s₀))));
+      back = rw (← words) (drop-behind s (w * q) (w * i) (w * run) low high
+          ∙ sym (drop-drop (w * run) (w * i) s) ∙ ap (λ (l : List ℕ). drop (w * run) l) (d .back) ∙ drop-drop (w * run) (w * i) s₀);
+      many = omega (arith, d .many, ap length run-stays, length-append (staying w i f xs s₀) (entries w run (drop (w * i) s₀)), length-entries w run (drop (w * i) s₀));
+    }
+
+    -- and the entry behind it goes, if there is one
+    pub done-more : Done w f xs s₀ after (min (e + 1) p) (q + run)
+    done-more = ⊎-elim
+        (λ (h : p ≤ e).
+        let m : min (e + 1) p ≡ e = omega (arith, u .within) in
+        rw m ran)
+        (λ (h : e < p).
+        let m : min (e + 1) p ≡ e + 1 = omega arith in
+        let g = staying-skip w f xs s₀ e (goes w f xs s₀ e (within .field) (sym (ap (λ (x : ℕ). member x xs) (same-word e (u .since))) ∙ u .stop h)) in
+        rw m (record {
+          len = ran .len;
+          few = omega (arith, ran .few);
+          front = ran .front ∙ sym (ap flat g);
+          back = rw (stride-more w e) (sym (drop-drop w (w * e) after) ∙ ap (λ (l : List ℕ). drop w l) (ran .back) ∙ drop-drop w (w * e) s₀);
+          many = ran .many ∙ sym (ap length g);
+        }))
+        (le-or-lt p e)
+
+pub done-all : (w f : ℕ) (xs s₀ s : List ℕ) (p q : ℕ) → w * p ≤ length s₀ → Done w f xs s₀ s p q → cleared s (w * q) (w * p) ≡ retained w p f xs s₀
+unfolding cleared retained padded
+done-all w f xs s₀ s p q room d =
+    let qp = mul-le-mul-left w (d .few) in
+    let k : length (flat (staying w p f xs s₀)) ≡ w * q = sym (ap length (d .front)) ∙ length-take-le (w * q) s (omega (arith, qp, d .len)) in
+    rw (d .front, d .back, k, append-assoc)

@@ -1,0 +1,6 @@
+-- Laws that belong to no one function.
+pub mod Moves
+pub mod Joined
+pub mod Names
+pub mod Search
+pub mod Compact

@@ -1,0 +1,2 @@
+-- What a compaction of entries leaves.
+pub mod Retain

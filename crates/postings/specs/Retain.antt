@@ -1,0 +1,48 @@
+-- Entries of w words, some of which go. Definitions only. Assumes nothing.
+use mathlib.Core.Path.{_≡_}
+use mathlib.Core.Bool.{Bool, true, false, not}
+use mathlib.Core.List.{List, _++_}
+use Prim.Native.Nat.{ℕ, _+_, _*_, _-_, _≤_, _<_}
+use lib.ListN.{length, getD, take, drop, replicate}
+use lib.Seq.{paste}
+use Rattle.lists.specs.Lists.{keep, flat, member}
+use Rattle.lists.specs.Keys.{Ascending}
+use Rattle.lists.specs.Entries.{entries, padded}
+
+-- s with the n words from place `from` on copied to place `to`
+unfoldable pub moved : List ℕ → ℕ → ℕ → ℕ → List ℕ
+moved s to from n = paste s to (drop from s) n
+
+-- s with zeros from place a up to place b
+unfoldable pub cleared : List ℕ → ℕ → ℕ → List ℕ
+cleared s a b = take a s ++ (replicate (b - a) 0 ++ drop b s)
+
+-- is word f of the entry none of xs?
+unfoldable pub unnamed : ℕ → List ℕ → List ℕ → Bool
+unnamed f xs e = not (member (getD e f 0) xs)
+
+-- of the first p entries those whose word f is none of xs, in order
+unfoldable pub staying : ℕ → ℕ → ℕ → List ℕ → List ℕ → List (List ℕ)
+staying w p f xs s = keep (unnamed f xs) (entries w p s)
+
+-- these, zeros as far as the p entries went, and what stood behind them
+unfoldable pub retained : ℕ → ℕ → ℕ → List ℕ → List ℕ → List ℕ
+retained w p f xs s = padded (w * p) (flat (staying w p f xs s)) ++ drop (w * p) s
+
+-- p entries of s, their word f, and entry `from` or the end
+pub record Within (w p f : ℕ) (s : List ℕ) (from : ℕ) : Type 0 where
+  pub field : f < w
+  pub room : w * p ≤ length s
+  pub start : from ≤ p
+
+-- the first n words of xs, in order
+pub record Names (n : ℕ) (xs : List ℕ) : Type 0 where
+  pub room : n ≤ length xs
+  pub ascending : Ascending (λ k. k) (take n xs)
+
+-- r is the first entry, from `from` on, whose word f passes the test; p where there is none
+pub record Until (t : ℕ → Bool) (w p f : ℕ) (s : List ℕ) (from r : ℕ) : Type 0 where
+  pub since : from ≤ r
+  pub within : r ≤ p
+  pub before : (i : ℕ) → from ≤ i → i < r → t (getD s (w * i + f) 0) ≡ false
+  pub stop : r < p → t (getD s (w * r + f) 0) ≡ true

@@ -1,0 +1,36 @@
+-- `rows::put_header` meets its contract. Assumes nothing.
+use native.Mathlib.Omega.{arith}
+use lib.ListN.{length-set}
+use Rattle.rows.proofs.References.{header-again}
+use borrow.Author.Needs.{needs}
+use Rattle.rows.proofs.put_header.Statement.{statement}
+use Rattle.rows.proofs.put_header.Tie as tie
+
+slice-write-refs : tie.Need-slice-write-refs
+slice-write-refs c = search needs
+
+slice-write-refs-2 : tie.Need-slice-write-refs-2
+slice-write-refs-2 c = simp length-set (omega arith)
+
+slice-write-refs-3 : tie.Need-slice-write-refs-3
+slice-write-refs-3 c = simp length-set (omega arith)
+
+slice-write-refs-4 : tie.Need-slice-write-refs-4
+slice-write-refs-4 c = search needs
+
+same-length : tie.Need-same-length
+same-length c = search needs
+
+returns : tie.Need-returns
+returns c = header-again (c .args .refs .now) (c .args .n) (c .args .v) (c .args .p) (c .args .k) (c .pre)
+
+pub put-header-spec : {M : Type 1} → statement M
+put-header-spec =
+    tie.close
+    (tie.spec
+    slice-write-refs
+    slice-write-refs-2
+    slice-write-refs-3
+    slice-write-refs-4
+    same-length
+    returns)

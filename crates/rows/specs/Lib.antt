@@ -1,0 +1,2 @@
+-- The references' words.
+pub mod References

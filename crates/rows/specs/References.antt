@@ -1,0 +1,30 @@
+-- "References: 4 words (rows n, vacant v, postings p, stopped k), then R rows of 4 words: rate bits, r_max, live (1 or 0), vacant entry."
+-- Definitions only. Assumes nothing.
+use mathlib.Core.Path.{_≡_}
+use mathlib.Core.List.{List, _∷_, _++_}
+use Prim.Native.Nat.{ℕ, _+_, _*_}
+use lib.ListN.{getD, drop, set}
+use Rattle.lists.specs.Lists.{flat}
+use Rattle.rows.specs.declared.Counts.{Counts}
+
+pub record CountsOf (rs : List ℕ) (h : Counts) : Type 0 where
+  pub rows : h .rows ≡ getD rs 0 0
+  pub vacant : h .vacant ≡ getD rs 1 0
+  pub postings : h .postings ≡ getD rs 2 0
+  pub stopped : h .stopped ≡ getD rs 3 0
+
+-- the first four words anew
+unfoldable pub headerPut : List ℕ → ℕ → ℕ → ℕ → ℕ → List ℕ
+headerPut rs n v p k = n ∷ v ∷ p ∷ k ∷ drop 4 rs
+
+-- rate bits, r_max and live of row j anew
+unfoldable pub rowPut : List ℕ → ℕ → ℕ → ℕ → ℕ → List ℕ
+rowPut rs j rate rmax live = set (set (set rs (4 * j + 4) rate) (4 * j + 5) rmax) (4 * j + 6) live
+
+-- vacant entry i anew
+unfoldable pub entryPut : List ℕ → ℕ → ℕ → List ℕ
+entryPut rs i id = set rs (4 * i + 7) id
+
+-- a header, rows of four words each, and what stands behind them
+unfoldable pub headed : ℕ → ℕ → ℕ → ℕ → List (List ℕ) → List ℕ → List ℕ
+headed n v p k es rest = n ∷ v ∷ p ∷ k ∷ (flat es ++ rest)

@@ -1,0 +1,71 @@
+// The references' words: the header, rows and vacant entries.
+ghost use mathlib.Core.Path.{_≡_};
+ghost use Prim.Native.Nat.{_+_, _*_, _<_, _≤_};
+ghost use lib.ListN.{length};
+ghost use Rattle.model.specs.Soundness.{rowWord};
+ghost use Rattle.rows.specs.References.{CountsOf, headerPut, rowPut, entryPut};
+
+// What of the store is in use: rows, vacant entries, postings and stopped keys.
+pub struct Counts {
+    pub rows: usize,
+    pub vacant: usize,
+    pub postings: usize,
+    pub stopped: usize,
+}
+
+pub fn size(x: u32) -> usize
+    ensures { λ r. ⌜ r ≡ x ⌝ }
+{
+    x as usize
+}
+
+// The first four words.
+pub fn header(refs: &[u32]) -> Counts
+    requires { ⌜ 4 ≤ length (now refs) ⌝ }
+    ensures { λ h. ⌜ CountsOf (now (refs .entry)) h ⌝ }
+{
+    Counts {
+        rows: size(refs[0]),
+        vacant: size(refs[1]),
+        postings: size(refs[2]),
+        stopped: size(refs[3]),
+    }
+}
+
+// Writes the first four words.
+pub fn put_header(refs: &mut [u32], n: u32, v: u32, p: u32, k: u32)
+    requires { ⌜ 4 ≤ length (now refs) ⌝ }
+    ensures { λ _. ⌜ now (refs .exit) ≡ headerPut (now (refs .entry)) n v p k ⌝ }
+{
+    refs[0] = n;
+    refs[1] = v;
+    refs[2] = p;
+    refs[3] = k;
+}
+
+// Word f of row j: 0 rate bits, 1 r_max, 2 live, 3 vacant entry.
+pub fn row_word(refs: &[u32], j: usize, f: usize) -> u32
+    requires { ⌜ 4 * j + (4 + f) < length (now refs) ⌝ }
+    ensures { λ r. ⌜ r ≡ rowWord (now (refs .entry)) j f ⌝ }
+{
+    refs[4 * j + (4 + f)]
+}
+
+// Writes row j but for its vacant entry.
+pub fn put_row(refs: &mut [u32], j: usize, rate: u32, rmax: u32, live: u32)
+    requires { ⌜ 4 * j + 8 ≤ length (now refs) ⌝ }
+    ensures { λ _. ⌜ now (refs .exit) ≡ rowPut (now (refs .entry)) j rate rmax live ⌝ }
+{
+    let a = 4 * j + 4;
+    refs[a] = rate;
+    refs[a + 1] = rmax;
+    refs[a + 2] = live;
+}
+
+// Writes vacant entry i.
+pub fn put_entry(refs: &mut [u32], i: usize, id: u32)
+    requires { ⌜ 4 * i + 8 ≤ length (now refs) ⌝ }
+    ensures { λ _. ⌜ now (refs .exit) ≡ entryPut (now (refs .entry)) i id ⌝ }
+{
+    refs[4 * i + 7] = id;
+}

@@ -1,0 +1,78 @@
+-- Rows and unused words, test by test. Assumes nothing.
+use mathlib.Core.Path.{_≡_, refl}
+use mathlib.Core.Bool.{Bool, true, false, cond, not, _&&_, _||_}
+use mathlib.Core.List.{List}
+use Prim.Native.Nat.{ℕ, _+_, _-_, _%_, _≤_}
+use native.Mathlib.Omega.{arith}
+use lib.ListN.{getD}
+use lib.Dec.{eqb, leb, ltb}
+use lib.Ieee.{binary32, nanBits}
+use lib.Ieee.Bits.{nanBits-above}
+use borrow.Author.Tests.{leb-true, leb-false, lt-ltb, le-ltb, eq-eqb, ne-eqb}
+use Rattle.lists.specs.Entries.{zeroWord}
+use Rattle.lists.proofs.Tests.{test}
+use Rattle.model.specs.Rows.{isWang, noRate, isCanonical}
+use Rattle.model.specs.Soundness.{rowWord, liveWord, deadFine, rateFine, rmaxFine, deadRow, entryUnused}
+use Rattle.soundness.specs.Scan.{rowTest, rowFine}
+
+-- "a live NaN rate is stored as that word"
+pub canonical-yes : (rate : ℕ) → rate ≡ noRate → isCanonical rate ≡ true
+unfolding isCanonical
+canonical-yes rate e = rw (eq-eqb rate noRate e) (or-true (not (nanBits binary32 rate)))
+  where
+    or-true : (b : Bool) → b || true ≡ true
+    or-true true = refl
+    or-true false = refl
+
+pub canonical-test : (rate : ℕ) → (rate ≡ noRate → ⊥) → leb (rate % 0x8000_0000) 0x7F80_0000 ≡ isCanonical rate
+unfolding isCanonical
+canonical-test rate d = rw (ne-eqb rate noRate d, nanBits-above binary32 rate) (turned (rate % 0x8000_0000) 0x7F80_0000)
+  where
+    turned : (a b : ℕ) → leb a b ≡ not (ltb b a) || false
+    turned a b = test (leb a b)
+        (λ e. rw (e, le-ltb b a (leb-true a b e)))
+        (λ e. rw (e, lt-ltb b a (leb-false a b e)))
+
+-- the four conditions on a row, from its words
+pub row-fine : (w : ℕ) (rs : List ℕ) (j : ℕ) → rowTest w (rowWord rs j 0) (rowWord rs j 1) (rowWord rs j 2) ≡ rowFine w rs j
+unfolding rowTest rowFine liveWord deadFine rateFine rmaxFine deadRow
+row-fine w rs j = same (leb (rowWord rs j 2) 1) (eqb (rowWord rs j 2) 0) (eqb (rowWord rs j 0) noRate) (eqb (rowWord rs j 1) 0) (isCanonical (rowWord rs j 0)) (isWang w)
+  where
+    same : (live dead none nought fine wang : Bool)
+        → live && cond dead (none && nought) (fine && (wang || nought)) ≡ live && ((not dead || (none && nought)) && ((dead || fine) && (wang || nought)))
+    same false dead none nought fine wang = refl
+    same true false none nought fine wang = refl
+    same true true false nought fine wang = refl
+    same true true true false fine wang = refl
+    same true true true true fine true = refl
+    same true true true true fine false = refl
+
+module _ (rs : List ℕ) (j : ℕ) where
+  pub dead-yes : rowWord rs j 2 ≡ 0 → deadRow rs j ≡ true
+  unfolding deadRow
+  dead-yes h = eq-eqb (rowWord rs j 2) 0 h
+
+  pub dead-no : (rowWord rs j 2 ≡ 0 → ⊥) → deadRow rs j ≡ false
+  unfolding deadRow
+  dead-no h = ne-eqb (rowWord rs j 2) 0 h
+
+-- words that are not in use, from place a on
+module _ (s : List ℕ) (a i : ℕ) (h : a ≤ i) where
+  here : a + (i - a) ≡ i
+  here = omega arith
+
+  pub zero-yes : getD s i 0 ≡ 0 → zeroWord s a (i - a) ≡ true
+  unfolding zeroWord
+  zero-yes e = rw here (eq-eqb (getD s i 0) 0 e)
+
+  pub zero-no : (getD s i 0 ≡ 0 → ⊥) → zeroWord s a (i - a) ≡ false
+  unfolding zeroWord
+  zero-no e = rw here (ne-eqb (getD s i 0) 0 e)
+
+  pub unused-yes : rowWord s i 3 ≡ 0 → entryUnused s a (i - a) ≡ true
+  unfolding entryUnused
+  unused-yes e = rw here (eq-eqb (rowWord s i 3) 0 e)
+
+  pub unused-no : (rowWord s i 3 ≡ 0 → ⊥) → entryUnused s a (i - a) ≡ false
+  unfolding entryUnused
+  unused-no e = rw here (ne-eqb (rowWord s i 3) 0 e)

@@ -1,0 +1,77 @@
+-- Document 01's conditions as the scan looks at them, each pass in one test. Definitions only. Assumes nothing.
+use mathlib.Core.Bool.{Bool, cond, not, _&&_, _||_}
+use mathlib.Core.List.{List}
+use Prim.Native.Nat.{ℕ, zero, suc, _+_, _*_, _-_, _/_, _≤_}
+use lib.ListN.{length}
+use lib.Dec.{eqb, leb}
+use Rattle.lists.specs.Every.{every, count}
+use Rattle.lists.specs.Entries.{keyAt, keysAscend, zeroFrom}
+use Rattle.model.specs.Rows.{isWang, noRate, isCanonical}
+use Rattle.model.specs.Calls.{Sizes}
+use Rattle.model.specs.Words.{Words, between, listed}
+use Rattle.model.specs.Soundness.{rowWord, countsFit, liveWord, deadFine, rateFine, rmaxFine, deadRow, vacantEntry, entryUnused, postingLive, anchorFine, keyUnstopped, stoppedStep, soundWords}
+
+-- the three slices
+abbrev pub words : List ℕ → List ℕ → List ℕ → Words
+words rs ps ss = record { references = rs; postings = ps; stopped = ss }
+
+-- the lengths of the slices are of those listed
+unfoldable pub lengthsListed : ℕ → ℕ → ℕ → ℕ → Bool
+lengthsListed w a b c =
+    (between 1 4096 ((a - 4) / 4) && (between 1 1048576 (b / w) && between 1 65536 c)) && (eqb a (4 + 4 * ((a - 4) / 4)) && eqb b (w * (b / w)))
+
+-- a row in use, by its words
+unfoldable pub rowTest : ℕ → ℕ → ℕ → ℕ → Bool
+rowTest w rate rmax live =
+    leb live 1 && cond (eqb live 0) (eqb rate noRate && eqb rmax 0) (isCanonical rate && (isWang w || eqb rmax 0))
+
+-- the four conditions on row j
+unfoldable pub rowFine : ℕ → List ℕ → ℕ → Bool
+rowFine w rs j = liveWord rs j && (deadFine rs j && (rateFine rs j && rmaxFine w rs j))
+
+-- none of the first j vacant entries is x
+unfoldable pub otherThan : List ℕ → ℕ → ℕ → Bool
+otherThan rs x i = not (eqb (rowWord rs i 3) x)
+
+unfoldable pub unnamed : List ℕ → ℕ → ℕ → Bool
+unnamed rs j x = every j (otherThan rs x)
+
+-- the two conditions on posting i
+unfoldable pub entryFine : ℕ → List ℕ → ℕ → List ℕ → ℕ → Bool
+entryFine w rs n ps i = postingLive w rs n ps i && anchorFine w rs ps i
+
+-- the key before entry i, 0 before the first
+abbrev pub lastKey : List ℕ → ℕ → ℕ → ℕ
+lastKey ps w zero = 0
+lastKey ps w (suc i) = keyAt ps w i
+
+-- the conditions on the references, the postings and the stopped keys
+unfoldable pub rowsSound : ℕ → List ℕ → ℕ → ℕ → Bool
+rowsSound w rs n v =
+    every n (rowFine w rs) && (eqb (count n (deadRow rs)) v && (every v (vacantEntry rs n) && (every (n - v) (entryUnused rs v) && zeroFrom rs (4 + 4 * n))))
+
+unfoldable pub postingsSound : ℕ → List ℕ → ℕ → List ℕ → ℕ → Bool
+postingsSound w rs n ps p = (keysAscend ps w p && every p (entryFine w rs n ps)) && zeroFrom ps (w * p)
+
+unfoldable pub stopsAscend : List ℕ → ℕ → Bool
+stopsAscend ss k = every (k - 1) (stoppedStep ss)
+
+unfoldable pub stoppedSound : ℕ → List ℕ → ℕ → List ℕ → ℕ → Bool
+stoppedSound w ss k ps p = stopsAscend ss k && (every p (keyUnstopped w ss k ps) && zeroFrom ss k)
+
+unfoldable pub soundAt : ℕ → Sizes → List ℕ → List ℕ → List ℕ → ℕ → ℕ → ℕ → ℕ → Bool
+soundAt w z rs ps ss n v p k = countsFit z n v p k && (rowsSound w rs n v && (postingsSound w rs n ps p && stoppedSound w ss k ps p))
+
+-- the slices and the numbers in use, where they fit
+pub record Fits (w : ℕ) (rs ps ss : List ℕ) (n v p k : ℕ) : Type 0 where
+  pub wide : 3 ≤ w
+  pub many : n ≤ 4096
+  pub rows : 4 * n + 4 ≤ length rs
+  pub vacant : v ≤ n
+  pub postings : w * p ≤ length ps
+  pub stopped : k ≤ length ss
+
+-- why a call on a store is refused before anything else is looked at: 1 unlisted, 2 unsound, 0 neither.
+-- "The lowest number that applies is returned."
+unfoldable pub refusalOf : ℕ → Words → ℕ
+refusalOf w m = cond (listed w m) (cond (soundWords w m) 0 2) 1

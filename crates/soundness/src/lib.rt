@@ -1,0 +1,398 @@
+// Whether a store's slices have lengths that are listed, and whether their words are sound: one scan.
+ghost use mathlib.Core.Path.{_≡_};
+ghost use mathlib.Core.Bool.{true, _&&_};
+ghost use Prim.Native.Nat.{_+_, _*_, _-_, _/_, _<_, _≤_};
+ghost use lib.ListN.{length};
+ghost use lib.Dec.{ltb, eqb};
+ghost use Rattle.lists.specs.Every.{every, count};
+ghost use Rattle.lists.specs.Entries.{keyAt, keysAscend, zeroFrom};
+ghost use Rattle.model.specs.Rows.{isCanonical};
+ghost use Rattle.model.specs.Words.{between, listed};
+ghost use Rattle.model.specs.Soundness.{countsFit, deadRow, vacantEntry, entryUnused, keyUnstopped, soundWords};
+ghost use Rattle.soundness.specs.Scan.{words, lengthsListed, rowTest, rowFine, entryFine, rowsSound, postingsSound, stopsAscend, stoppedSound, refusalOf, Fits};
+use postings::at;
+use postings::word;
+use rows::row_word;
+use rows::size;
+
+// The rate of a dead row, and of a live one that is a NaN.
+pub const NO_RATE: u32 = 0x7FC0_0000;
+
+fn within(a: usize, b: usize, x: usize) -> bool
+    ensures { λ r. ⌜ r ≡ between a b x ⌝ }
+{
+    if x < a {
+        return false;
+    }
+    x <= b
+}
+
+// Whether the lengths of the three slices are of those listed.
+fn lengths_listed(a: usize, b: usize, c: usize, w: usize) -> bool
+    requires { ⌜ 1 ≤ w ⌝ }
+    ensures { λ r. ⌜ r ≡ lengthsListed w a b c ⌝ }
+{
+    if a < 4 {
+        return false;
+    }
+    let r = (a - 4) / 4;
+    if !within(1, 4096, r) {
+        return false;
+    }
+    let p = b / w;
+    if !within(1, 1048576, p) {
+        return false;
+    }
+    if !within(1, 65536, c) {
+        return false;
+    }
+    if a != 4 + 4 * r {
+        return false;
+    }
+    b == w * p
+}
+
+// Whether the numbers in use are within the room.
+fn counts_fit(r: usize, most: usize, room: usize, n: usize, v: usize, p: usize, k: usize) -> bool
+    ensures { λ b. ⌜ b ≡ countsFit (record { R = r; P = most; K = room }) n v p k ⌝ }
+{
+    if r < n {
+        return false;
+    }
+    if n < v {
+        return false;
+    }
+    if most < p {
+        return false;
+    }
+    k <= room
+}
+
+// Whether a rate is no NaN, or the one form of it.
+fn canonical(rate: u32) -> bool
+    ensures { λ r. ⌜ r ≡ isCanonical rate ⌝ }
+{
+    if rate == NO_RATE {
+        return true;
+    }
+    rate % 0x8000_0000 <= 0x7F80_0000
+}
+
+// Whether the words of a row in use are fine.
+fn row_test(w: usize, rate: u32, rmax: u32, live: u32) -> bool
+    ensures { λ r. ⌜ r ≡ rowTest w rate rmax live ⌝ }
+{
+    if 1 < live {
+        return false;
+    }
+    if live == 0 {
+        if rate != NO_RATE {
+            return false;
+        }
+        return rmax == 0;
+    }
+    if !canonical(rate) {
+        return false;
+    }
+    if w == 3 {
+        return true;
+    }
+    rmax == 0
+}
+
+// Whether each row in use is fine.
+fn rows_fine(refs: &[u32], w: usize, n: usize) -> bool
+    requires { ⌜ 4 * n + 4 ≤ length (now refs) ⌝ }
+    ensures { λ r. ⌜ r ≡ every n (rowFine w (now (refs .entry))) ⌝ }
+{
+    let mut j = 0;
+    while j < n {
+        if !row_test(
+            w,
+            row_word(refs, j, 0),
+            row_word(refs, j, 1),
+            row_word(refs, j, 2),
+        ) {
+            return false;
+        }
+        j += 1;
+    }
+    true
+}
+
+// How many of the rows in use are dead.
+fn dead_count(refs: &[u32], n: usize) -> usize
+    requires { ⌜ 4 * n + 4 ≤ length (now refs) ⌝ }
+    ensures { λ r. ⌜ r ≡ count n (deadRow (now (refs .entry))) ⌝ }
+{
+    let mut c = 0;
+    let mut j = 0;
+    while j < n {
+        if row_word(refs, j, 2) == 0 {
+            c += 1;
+            j += 1;
+        } else {
+            j += 1;
+        }
+    }
+    c
+}
+
+// Whether each of the v vacant entries is a dead id that none before it names. The ids that were named are marked.
+fn vacants_fine(refs: &[u32], n: usize, v: usize) -> bool
+    requires { ⌜ (n ≤ 4096) × (v ≤ n) × (4 * n + 4 ≤ length (now refs)) ⌝ }
+    ensures { λ r. ⌜ r ≡ every v (vacantEntry (now (refs .entry)) n) ⌝ }
+{
+    let mut marks = [0u8; 4096];
+    let mut j = 0;
+    while j < v {
+        let x = size(row_word(refs, j, 3));
+        if n <= x {
+            return false;
+        }
+        if row_word(refs, x, 2) != 0 {
+            return false;
+        }
+        if marks[x] != 0 {
+            return false;
+        }
+        marks[x] = 1;
+        j += 1;
+    }
+    true
+}
+
+// Whether the vacant entries behind the first v are zero, in the rows in use.
+fn entries_unused(refs: &[u32], n: usize, v: usize) -> bool
+    requires { ⌜ (v ≤ n) × (4 * n + 4 ≤ length (now refs)) ⌝ }
+    ensures { λ r. ⌜ r ≡ every (n - v) (entryUnused (now (refs .entry)) v) ⌝ }
+{
+    let mut j = v;
+    while j < n {
+        if row_word(refs, j, 3) != 0 {
+            return false;
+        }
+        j += 1;
+    }
+    true
+}
+
+// Whether every word from place a on is zero.
+fn zero_from(s: &[u32], a: usize) -> bool
+    requires { ⌜ a ≤ length (now s) ⌝ }
+    ensures { λ r. ⌜ r ≡ zeroFrom (now (s .entry)) a ⌝ }
+{
+    let mut ok = true;
+    let mut i = a;
+    while i < s.len() {
+        if at(s, i) == 0 {
+            i += 1;
+        } else {
+            ok = false;
+            i += 1;
+        }
+    }
+    ok
+}
+
+fn rows_sound(refs: &[u32], w: usize, n: usize, v: usize) -> bool
+    requires { ⌜ (n ≤ 4096) × (v ≤ n) × (4 * n + 4 ≤ length (now refs)) ⌝ }
+    ensures { λ r. ⌜ r ≡ rowsSound w (now (refs .entry)) n v ⌝ }
+{
+    if !rows_fine(refs, w, n) {
+        return false;
+    }
+    if dead_count(refs, n) != v {
+        return false;
+    }
+    if !vacants_fine(refs, n, v) {
+        return false;
+    }
+    if !entries_unused(refs, n, v) {
+        return false;
+    }
+    zero_from(refs, 4 + 4 * n)
+}
+
+// Whether posting i has a live id and, in a Wang store, an anchor of at most that row's r_max.
+fn entry_fine(refs: &[u32], n: usize, posts: &[u32], w: usize, i: usize) -> bool
+    requires { ⌜ (3 ≤ w) × (w * i + w ≤ length (now posts)) × (4 * n + 4 ≤ length (now refs)) ⌝ }
+    ensures { λ r. ⌜ r ≡ entryFine w (now (refs .entry)) n (now (posts .entry)) i ⌝ }
+{
+    let id = size(word(posts, w, i, 1));
+    if n <= id {
+        return false;
+    }
+    if row_word(refs, id, 2) != 1 {
+        return false;
+    }
+    if w != 3 {
+        return true;
+    }
+    word(posts, w, i, 2) <= row_word(refs, id, 1)
+}
+
+// Whether the keys of the postings ascend, and each posting is fine: one pass.
+fn entries_fine(refs: &[u32], n: usize, posts: &[u32], w: usize, p: usize) -> bool
+    requires { ⌜ (3 ≤ w) × (w * p ≤ length (now posts)) × (4 * n + 4 ≤ length (now refs)) ⌝ }
+    ensures { λ r. ⌜ r ≡ keysAscend (now (posts .entry)) w p && every p (entryFine w (now (refs .entry)) n (now (posts .entry))) ⌝ }
+{
+    let mut last = 0;
+    let mut i = 0;
+    while i < p {
+        let key = maps::key_at(posts, w, i);
+        if key < last {
+            return false;
+        }
+        if !entry_fine(refs, n, posts, w, i) {
+            return false;
+        }
+        last = key;
+        i += 1;
+    }
+    true
+}
+
+fn postings_sound(refs: &[u32], n: usize, posts: &[u32], w: usize, p: usize) -> bool
+    requires { ⌜ (3 ≤ w) × (w * p ≤ length (now posts)) × (4 * n + 4 ≤ length (now refs)) ⌝ }
+    ensures { λ r. ⌜ r ≡ postingsSound w (now (refs .entry)) n (now (posts .entry)) p ⌝ }
+{
+    if !entries_fine(refs, n, posts, w, p) {
+        return false;
+    }
+    zero_from(posts, w * p)
+}
+
+// Whether the stopped keys ascend.
+fn stops_ascend(stops: &[u32], k: usize) -> bool
+    requires { ⌜ k ≤ length (now stops) ⌝ }
+    ensures { λ r. ⌜ r ≡ stopsAscend (now (stops .entry)) k ⌝ }
+{
+    let mut i = 0;
+    while i + 1 < k {
+        if at(stops, i + 1) <= at(stops, i) {
+            return false;
+        }
+        i += 1;
+    }
+    true
+}
+
+fn wide(x: u32) -> u64
+    ensures { λ r. ⌜ r ≡ x ⌝ }
+{
+    x as u64
+}
+
+// Whether there is an entry i, and its key is this one.
+fn has_key(posts: &[u32], w: usize, p: usize, i: usize, key: u32) -> bool
+    requires { ⌜ (1 ≤ w) × (w * p ≤ length (now posts)) ⌝ }
+    ensures { λ r. ⌜ r ≡ ltb i p && eqb (keyAt (now (posts .entry)) w i) key ⌝ }
+{
+    if p <= i {
+        return false;
+    }
+    maps::key_at(posts, w, i) == key
+}
+
+// Whether no posting has a stopped key. Both ascend, so each key is looked for behind the one before it.
+fn none_stopped(stops: &[u32], k: usize, posts: &[u32], w: usize, p: usize) -> bool
+    requires { ⌜ (3 ≤ w) × (w * p ≤ length (now posts)) × (k ≤ length (now stops)) ⌝ }
+    requires { ⌜ (keysAscend (now posts) w p ≡ true) × (stopsAscend (now stops) k ≡ true) ⌝ }
+    ensures { λ r. ⌜ r ≡ every p (keyUnstopped w (now (stops .entry)) k (now (posts .entry))) ⌝ }
+{
+    let mut i = 0;
+    let mut j = 0;
+    while j < k {
+        let key = at(stops, j);
+        i = maps::first_from(posts, w, p, i, wide(key));
+        if has_key(posts, w, p, i, key) {
+            return false;
+        }
+        j += 1;
+    }
+    true
+}
+
+fn stopped_sound(stops: &[u32], k: usize, posts: &[u32], w: usize, p: usize) -> bool
+    requires { ⌜ (3 ≤ w) × (w * p ≤ length (now posts)) × (k ≤ length (now stops)) ⌝ }
+    requires { ⌜ keysAscend (now posts) w p ≡ true ⌝ }
+    ensures { λ r. ⌜ r ≡ stoppedSound w (now (stops .entry)) k (now (posts .entry)) p ⌝ }
+{
+    if !stops_ascend(stops, k) {
+        return false;
+    }
+    if !none_stopped(stops, k, posts, w, p) {
+        return false;
+    }
+    zero_from(stops, k)
+}
+
+// Whether the words are sound where the numbers in use fit.
+fn sound_within(
+    refs: &[u32],
+    posts: &[u32],
+    stops: &[u32],
+    w: usize,
+    n: usize,
+    v: usize,
+    p: usize,
+    k: usize,
+) -> bool
+    requires { ⌜ Fits w (now refs) (now posts) (now stops) n v p k ⌝ }
+    ensures { λ r. ⌜ r ≡ rowsSound w (now (refs .entry)) n v && (postingsSound w (now (refs .entry)) n (now (posts .entry)) p && stoppedSound w (now (stops .entry)) k (now (posts .entry)) p) ⌝ }
+{
+    if !rows_sound(refs, w, n, v) {
+        return false;
+    }
+    if !postings_sound(refs, n, posts, w, p) {
+        return false;
+    }
+    stopped_sound(stops, k, posts, w, p)
+}
+
+// Whether the words of a store, whose slices have lengths that are listed, are sound.
+fn words_sound(refs: &[u32], posts: &[u32], stops: &[u32], w: usize) -> bool
+    requires { ⌜ (3 ≤ w) × (listed w (words (now refs) (now posts) (now stops)) ≡ true) ⌝ }
+    ensures { λ r. ⌜ r ≡ soundWords w (words (now (refs .entry)) (now (posts .entry)) (now (stops .entry))) ⌝ }
+{
+    let h = rows::header(refs);
+    let n = h.rows;
+    let v = h.vacant;
+    let p = h.postings;
+    let k = h.stopped;
+    if !counts_fit(
+        (refs.len() - 4) / 4,
+        posts.len() / w,
+        stops.len(),
+        n,
+        v,
+        p,
+        k,
+    ) {
+        return false;
+    }
+    sound_within(refs, posts, stops, w, n, v, p, k)
+}
+
+// Whether the lengths of a store's slices are of those listed.
+pub fn is_listed(refs: &[u32], posts: &[u32], stops: &[u32], w: usize) -> bool
+    requires { ⌜ 3 ≤ w ⌝ }
+    ensures { λ r. ⌜ r ≡ listed w (words (now (refs .entry)) (now (posts .entry)) (now (stops .entry))) ⌝ }
+{
+    lengths_listed(refs.len(), posts.len(), stops.len(), w)
+}
+
+// Why a store is refused: 1 where the length of a slice is none of those listed, 2 where the words are unsound; 0 where it is not.
+pub fn refusal_of(refs: &[u32], posts: &[u32], stops: &[u32], w: usize) -> u32
+    requires { ⌜ 3 ≤ w ⌝ }
+    ensures { λ r. ⌜ r ≡ refusalOf w (words (now (refs .entry)) (now (posts .entry)) (now (stops .entry))) ⌝ }
+{
+    if !is_listed(refs, posts, stops, w) {
+        return 1;
+    }
+    if !words_sound(refs, posts, stops, w) {
+        return 2;
+    }
+    0
+}

@@ -1,0 +1,3 @@
+-- What live_count and remove answer and leave.
+pub mod Answers
+pub mod Erasing
