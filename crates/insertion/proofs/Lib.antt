@@ -1,0 +1,10 @@
+-- Laws that belong to no one function.
+pub mod Times
+pub mod Arrivals
+pub mod Placed
+pub mod RowWords
+pub mod References
+pub mod Refusals
+pub mod Admission
+pub mod Wrote
+pub mod Admitted

@@ -1,0 +1,36 @@
+-- What a call of insert answers and leaves. Definitions only. Assumes nothing.
+use mathlib.Core.Path.{_≡_}
+use mathlib.Core.Bool.{Bool, true, false, _&&_}
+use mathlib.Core.List.{List}
+use Prim.Native.Nat.{ℕ, _-_, _/_, _≤_}
+use lib.ListN.{length, getD}
+use lib.Dec.{eqb}
+use Rattle.model.specs.Fingerprints.{malformed, referenceMost}
+use Rattle.model.specs.Calls.{Answer, stored, refused, insertStep}
+use Rattle.model.specs.Words.{Words, sizesOf, listed}
+use Rattle.model.specs.Soundness.{soundWords}
+use Rattle.model.specs.Run.{storeOf, onWords}
+use Rattle.insertion.specs.declared.Insertion.{Insertion}
+use Rattle.insertion.specs.declared.Insertion.the-variants.{Refused, Stored}
+
+-- "Every answer is a case: .. stored with an id .. or refused with a number."
+abbrev pub insertionAnswer : Insertion → Answer
+insertionAnswer (Refused n) = refused n
+insertionAnswer (Stored id) = stored id
+
+-- the model's insertion, on the store's words
+unfoldable pub insertRun : ℕ → Words → ℕ → ℕ → List ℕ → Answer × Words
+insertRun w m limit rate hashes = onWords w m (insertStep w (sizesOf w m) (storeOf w m) limit rate hashes)
+
+-- refusal 5: "v = 0 and n = R"
+unfoldable pub noRow : List ℕ → Bool
+noRow rs = eqb (getD rs 1 0) 0 && eqb (getD rs 0 0) ((length rs - 4) / 4)
+
+-- refusals 1, 2, 3 and 5 do not apply
+pub record Ready (w : ℕ) (m : Words) (hashes : List ℕ) : Type 0 where
+  pub wide : 3 ≤ w
+  pub narrow : w ≤ 5
+  pub is-listed : listed w m ≡ true
+  pub is-sound : soundWords w m ≡ true
+  pub formed : malformed w referenceMost hashes ≡ false
+  pub row-left : noRow (m .references) ≡ false

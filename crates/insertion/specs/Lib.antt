@@ -1,0 +1,3 @@
+-- What an insertion writes, answers and leaves.
+pub mod Writing
+pub mod Insert

@@ -1,0 +1,9 @@
+pub mod Joined
+pub mod Members
+pub mod Taken
+pub mod Pasted
+pub mod Writing
+pub mod Merging
+pub mod Runs
+pub mod Weighing
+pub mod Ordered

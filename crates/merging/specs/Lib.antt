@@ -1,0 +1,3 @@
+-- The new hashes in order of key and arrival, the keys that pass the limit, and entries merged among others.
+pub mod Order
+pub mod Merge
