@@ -1,25 +1,25 @@
 -- From what the functions of `merging` find in a sound store to what the model's insertion leaves. Assumes nothing.
 use mathlib.Core.Path.{_≡_, refl, sym, ap, _∙_, subst}
-use mathlib.Core.Bool.{Bool, true, false, cond, not, _&&_, _||_}
-use mathlib.Core.List.{List, [], _∷_, _++_, map}
-use Prim.Native.Nat.{ℕ, zero, suc, _+_, _*_, _-_, _/_, _^_, _≤_, _<_}
-use native.Mathlib.Nat.{mul-div-le, mul-le-mul-left, le-trans}
+use mathlib.Core.Bool.{true, false, cond, not, _&&_}
+use mathlib.Core.List.{List, map}
+use Prim.Native.Nat.{ℕ, zero, suc, _+_, _*_, _-_, _/_, _≤_, _<_}
+use native.Mathlib.Nat.{mul-div-le, mul-le-mul-left}
 use native.Mathlib.Omega.{arith}
 use lib.IntN.{ℤ}
 use lib.ListN.{length, getD, take, drop, length-map, length-append}
 use lib.Seq.{length-take-le}
 use lib.Dec.{eqb, leb, ltb}
 use borrow.Author.Tests.{ltb-false, leb-true, eqb-true, eqb-false, eq-eqb, ne-eqb, le-ltb, lt-ltb}
-use Rattle.lists.specs.Lists.{keep, flat, member}
-use Rattle.lists.specs.Keys.{Sorted, Ascending, placeAll}
-use Rattle.lists.specs.Entries.{entries, entryAt, keyOf as firstWord, keyAt, keysAscend, zeroFrom, padded}
+use Rattle.lists.specs.Lists.{flat}
+use Rattle.lists.specs.Keys.{Ascending, placeAll}
+use Rattle.lists.specs.Entries.{entries, keyAt, keysAscend, zeroFrom, padded}
 use Rattle.lists.proofs.Tests.{test, and-left, and-right, or-false-right}
 use Rattle.lists.proofs.Keep.{map-map, length-keep}
 use Rattle.lists.proofs.Place.{length-placeAll}
 use Rattle.lists.proofs.Entries.{length-read, read-at}
 use Rattle.model.specs.Fingerprints.{fingerprintOf, hashesOf, hashCount, uneven, malformed, referenceMost}
 use Rattle.model.specs.Rows.{isWang, largestAnchor, canonical, rowOf}
-use Rattle.model.specs.Index.{Posting, Index, keyOf, posted, unskipped, isStopped, stoppedAfter, postingsAfter, newId, inserted}
+use Rattle.model.specs.Index.{Index, keyOf, posted, unskipped, isStopped, stoppedAfter, postingsAfter, newId, inserted}
 use Rattle.model.specs.Calls.{Sizes, Answer, stored, refused}
 use Rattle.model.specs.Words.{Words, sizesOf, sizesListed, between, listed, write, postingWords, readRow, readVacant, readPosting, readIndex}
 use Rattle.model.specs.Sound.{Sound}
@@ -27,11 +27,11 @@ use Rattle.model.specs.Soundness.{rowWord, soundWords}
 use Rattle.model.proofs.Words.{written-postings}
 use Rattle.model.proofs.Facts.{Facts}
 use Rattle.model.proofs.Written.{row-word, fewer}
-use Rattle.model.proofs.Stores.{references-long, postings-long, stopped-long, sizes-listed, sound-facts, sound-read, sound-again}
+use Rattle.model.proofs.Stores.{references-long, postings-long, sizes-listed, sound-facts, sound-read, sound-again}
 use Rattle.postings.specs.Retain.{unnamed, staying}
-use Rattle.merging.specs.Order.{upTo, unstoppedAt, taken, packs, ordered, keysIn, placesIn, oldKeys, OverKeys}
+use Rattle.merging.specs.Order.{upTo, unstoppedAt, taken, packs, ordered, keysIn, oldKeys, OverKeys}
 use Rattle.merging.proofs.Ordered.{sorted-ordered, length-ordered, keys-are, places-are, are-places}
-use Rattle.insertion.specs.Writing.{placedEntries, recorded, Placing, Stopping, idIn, postingsIn, Writable}
+use Rattle.insertion.specs.Writing.{placedEntries, recorded, idIn, postingsIn, Writable}
 use Rattle.insertion.specs.Insert.{insertRun, noRow, Ready}
 use Rattle.insertion.proofs.Arrivals.{length-unskipped, stopped-is, postings-are}
 use Rattle.insertion.proofs.References.{recorded-is}
@@ -227,7 +227,7 @@ module _ (w : ℕ) (m : Words) (hashes : List ℕ) (D : Ready w m hashes) (limit
   unfolding sizesOf
   six-is =
       let e : length (unskipped (isStopped x) (posted (newId x) (hashesOf w hashes))) ≡ count =
-          length-unskipped w hashes (newId x) w2 x ∙ ap (λ (t : List ℕ). length (taken (w - 1) hashes t N)) stop ∙ sym many in
+      length-unskipped w hashes (newId x) w2 x ∙ ap (λ (t : List ℕ). length (taken (w - 1) hashes t N)) stop ∙ sym many in
       rw (postings-many w m w2 l s, e)
 
   -- where the postings do not fit
@@ -317,12 +317,12 @@ module _ (w : ℕ) (m : Words) (hashes : List ℕ) (D : Ready w m hashes) (limit
         row-there : 4 * idIn (m .references) + 8 ≤ length (m .references)
         row-there =
             let q : idIn rs < sizesOf w m .R = test (eqb (length (x .vacant)) 0)
-                (λ e. let v = eqb-true (length (x .vacant)) 0 e in
-                let d : newId x ≡ length (x .rows) = rw e in
-                rw (id-is w m w2 l s, d) (row-left v))
-                (λ e.
-                let v = positive (length (x .vacant)) (eqb-false (length (x .vacant)) 0 e) in
-                omega (arith, id-is w m w2 l s, row-inside v, snd .rows-fit)) in
+            (λ e. let v = eqb-true (length (x .vacant)) 0 e in
+            let d : newId x ≡ length (x .rows) = rw e in
+            rw (id-is w m w2 l s, d) (row-left v))
+            (λ e.
+            let v = positive (length (x .vacant)) (eqb-false (length (x .vacant)) 0 e) in
+            omega (arith, id-is w m w2 l s, row-inside v, snd .rows-fit)) in
             omega (arith, R .references)
 
         pub writable : Writable w (m .references) (m .postings) (m .stopped) hashes order count overs n

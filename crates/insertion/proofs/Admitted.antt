@@ -1,5 +1,5 @@
 -- What `admit` finds, by the header as it was read, and what follows of its answer. Assumes nothing.
-use mathlib.Core.Path.{_≡_, refl, sym, ap, _∙_, subst}
+use mathlib.Core.Path.{_≡_, sym, ap, _∙_, subst}
 use mathlib.Core.Bool.{true, cond}
 use mathlib.Core.List.{List}
 use Prim.Native.Nat.{ℕ, _+_, _*_, _-_, _/_, _^_, _≤_, _<_}
@@ -12,7 +12,7 @@ use Rattle.lists.specs.Entries.{padded, keysAscend}
 use Rattle.sorting.specs.Sort.{sortZ}
 use Rattle.model.specs.Fingerprints.{hashesOf, hashCount}
 use Rattle.model.specs.Rows.{isWang, largestAnchor, canonical}
-use Rattle.model.specs.Calls.{Answer, stored, refused}
+use Rattle.model.specs.Calls.{stored, refused}
 use Rattle.model.specs.Words.{Words}
 use Rattle.rows.specs.declared.Counts.{Counts}
 use Rattle.rows.specs.References.{CountsOf}

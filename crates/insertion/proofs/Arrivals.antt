@@ -1,18 +1,18 @@
 -- What the model's insertion leaves of postings and stopped keys, from the places of the new hashes. Assumes nothing.
-use mathlib.Core.Path.{_≡_, refl, sym, ap, _∙_, subst}
-use mathlib.Core.Bool.{Bool, true, false, not, _&&_, _||_, and-false}
-use mathlib.Core.List.{List, [], _∷_, _++_, map}
-use Prim.Native.Nat.{ℕ, zero, suc, _+_, _-_, _*_, _≤_, _<_}
+use mathlib.Core.Path.{_≡_, refl, sym, ap, _∙_}
+use mathlib.Core.Bool.{Bool, true, false, not, and-false}
+use mathlib.Core.List.{List, [], _∷_, map}
+use Prim.Native.Nat.{ℕ, zero, suc, _+_, _-_, _≤_}
 use native.Mathlib.Omega.{arith}
-use lib.ListN.{length, getD, take, drop, length-append, length-map}
+use lib.ListN.{length, getD, length-append, length-map}
 use lib.Dec.{eqb, ltb}
 use borrow.Author.Tests.{eqb-true, ne-eqb, le-ltb, not-true}
-use Rattle.lists.specs.Lists.{keep, some?, member, All}
+use Rattle.lists.specs.Lists.{keep, member, All}
 use Rattle.lists.specs.Keys.{under, hasKey, Sorted, Ascending, placeAll}
 use Rattle.lists.specs.Entries.{entries, entryAt, keyOf as firstWord, keyAt}
 use Rattle.lists.proofs.Tests.{test, not-both}
 use Rattle.lists.proofs.Keep.{keep-map, keep-ext, keep-none, all-imp, all-kept, map-map, map-same, all-of}
-use Rattle.lists.proofs.Place.{under-placeAll, under-map, placeAll-map, sorted-keep}
+use Rattle.lists.proofs.Place.{under-placeAll, under-map, placeAll-map}
 use Rattle.lists.proofs.Ascending.{ascending-ext}
 use Rattle.lists.proofs.Entries.{entries-suc, entry-key}
 use Rattle.model.specs.Fingerprints.{Hash, hashOf, hashesOf, hashCount}
@@ -22,7 +22,7 @@ use Rattle.model.proofs.Parts.{ascending-stopKeys}
 use Rattle.model.proofs.Agree.{stoppedAfter-is}
 use Rattle.merging.specs.Order.{upTo, unstoppedAt, taken, ordered, times, OverKeys, entryOf, entriesOf, without}
 use Rattle.merging.proofs.Taken.{map-append}
-use Rattle.merging.proofs.Ordered.{under-ordered, length-ordered}
+use Rattle.merging.proofs.Ordered.{under-ordered}
 use Rattle.insertion.proofs.Times.{some-kept, keep-keep, times-map, member-placeAll, ascending-placeAll, placeAll-same, keep-placeAll}
 
 entries-upTo : (v n : ℕ) (s : List ℕ) → entries v n s ≡ map (λ j. entryAt v j s) (upTo n)
@@ -149,17 +149,17 @@ module _ (w : ℕ) (words : List ℕ) (id : ℕ) (w2 : 2 ≤ w) (x : Index) wher
         let free : Posting → Bool = λ p. not (member (keyOf p) L) in
         let fresh = map (postingAt (w - 1) words id) O in
         ap (map postingWords) (
-          keep-ext (λ p. not (exceeds limit new (placed x new) (keyOf p))) free (λ p. ap not (over-is (keyOf p))) (placed x new)
-          ∙ ap (λ l. keep free (placeAll keyOf l (x .postings))) unskipped-is
-          ∙ ap (keep free) (placeAll-same keyOf (map (postingAt (w - 1) words id) T) fresh (x .postings) sorted
-            (λ k. under-places k T ∙ ap (map (postingAt (w - 1) words id)) (sym (under-ordered (w - 1) words (x .stopped) (hashCount w words) few k)) ∙ sym (under-places k O)))
-          ∙ keep-placeAll keyOf free fresh (x .postings) sorted)
+        keep-ext (λ p. not (exceeds limit new (placed x new) (keyOf p))) free (λ p. ap not (over-is (keyOf p))) (placed x new)
+        ∙ ap (λ l. keep free (placeAll keyOf l (x .postings))) unskipped-is
+        ∙ ap (keep free) (placeAll-same keyOf (map (postingAt (w - 1) words id) T) fresh (x .postings) sorted
+        (λ k. under-places k T ∙ ap (map (postingAt (w - 1) words id)) (sym (under-ordered (w - 1) words (x .stopped) (hashCount w words) few k)) ∙ sym (under-places k O)))
+        ∙ keep-placeAll keyOf free fresh (x .postings) sorted)
         ∙ sym (placeAll-map (λ e. firstWord e) postingWords (keep free fresh) (keep free (x .postings)))
         ∙ ap (λ l. placeAll (λ e. firstWord e) (map postingWords (keep free fresh)) l) (sym (keep-map postingWords (λ e. not (member (getD e 0 0) L)) (x .postings)))
         ∙ ap (λ l. placeAll (λ e. firstWord e) l (keep (λ e. not (member (getD e 0 0) L)) (map postingWords (x .postings))))
-          (ap (map postingWords) (
-            keep-map (postingAt (w - 1) words id) free O
-            ∙ ap (map (postingAt (w - 1) words id)) (keep-ext (λ j. free (postingAt (w - 1) words id j)) (unstoppedAt (w - 1) words L) (λ j. rw (key-is j)) O))
-          ∙ map-map postingWords (postingAt (w - 1) words id) (keep (unstoppedAt (w - 1) words L) O)
-          ∙ map-same (λ j. postingWords (postingAt (w - 1) words id j)) (λ j. entryOf (w - 1) words id j) (keep (unstoppedAt (w - 1) words L) O)
-            (all-of (λ j. postingWords (postingAt (w - 1) words id j) ≡ entryOf (w - 1) words id j) (λ j. rw (key-is j)) (keep (unstoppedAt (w - 1) words L) O)))
+        (ap (map postingWords) (
+        keep-map (postingAt (w - 1) words id) free O
+        ∙ ap (map (postingAt (w - 1) words id)) (keep-ext (λ j. free (postingAt (w - 1) words id j)) (unstoppedAt (w - 1) words L) (λ j. rw (key-is j)) O))
+        ∙ map-map postingWords (postingAt (w - 1) words id) (keep (unstoppedAt (w - 1) words L) O)
+        ∙ map-same (λ j. postingWords (postingAt (w - 1) words id j)) (λ j. entryOf (w - 1) words id j) (keep (unstoppedAt (w - 1) words L) O)
+        (all-of (λ j. postingWords (postingAt (w - 1) words id j) ≡ entryOf (w - 1) words id j) (λ j. rw (key-is j)) (keep (unstoppedAt (w - 1) words L) O)))

@@ -1,22 +1,21 @@
 -- Entries merged into words that are zero behind the old entries. Assumes nothing.
-use mathlib.Core.Path.{_≡_, refl, sym, ap, _∙_, subst}
-use mathlib.Core.Bool.{Bool, true, false, not}
+use mathlib.Core.Path.{_≡_, refl, sym, ap, _∙_}
+use mathlib.Core.Bool.{true}
 use mathlib.Core.List.{List, [], _∷_, _++_, map, append-assoc, append-nil}
 use Prim.Native.Nat.{ℕ, zero, suc, _+_, _*_, _-_, _≤_, _<_}
-use native.Mathlib.Nat.{mul-add, mul-le-mul-left, le-trans, one-mul, zero-add}
+use native.Mathlib.Nat.{mul-add, mul-le-mul-left, le-trans, one-mul}
 use native.Mathlib.Omega.{arith}
 use lib.IntN.{ℤ, pos}
 use lib.ListN.{length, getD, take, drop, replicate, length-map, replicate-append-replicate}
 use lib.Seq.{drop-drop, drop-at, length-take-le}
-use Rattle.lists.specs.Lists.{keep, flat, member, All}
-use Rattle.lists.specs.Keys.{Sorted, Ascending, placeAll}
+use Rattle.lists.specs.Lists.{flat}
+use Rattle.lists.specs.Keys.{Sorted, placeAll}
 use Rattle.lists.specs.Entries.{entries, keyOf, keyAt, keysAscend, zeroFrom, padded, Wide}
 use Rattle.lists.proofs.Keep.{length-flat, length-keep, all-keep, all-map, all-make, all-of}
 use Rattle.lists.proofs.Place.{sorted-keep, sorted-map, all-placeAll, length-placeAll, placeAll-map}
-use Rattle.lists.proofs.Ascending.{ascending-sorted}
 use Rattle.lists.proofs.Entries.{entries-flat, entries-take, wide-entries, length-entries, sorted-entries, entries-sorted, padded-take, length-padded}
 use Rattle.postings.specs.Retain.{unnamed, staying, retained}
-use Rattle.merging.specs.Order.{unstoppedAt, placeIn, placesIn, entryOf, entriesOf, without, Places}
+use Rattle.merging.specs.Order.{unstoppedAt, placeIn, placesIn, entryOf, entriesOf, without}
 use Rattle.merging.specs.Merge.{merged}
 use Rattle.merging.proofs.Pasted.{length-entryOf}
 use Rattle.merging.proofs.Writing.{length-places, place-at}
@@ -50,12 +49,12 @@ module _ (w q : ℕ) (s : List ℕ) (es : List (List ℕ)) (wide : Wide w es) (m
       let long : length (flat es) ≡ w * q = length-flat w es wide ∙ rw many in
       let n : w * (q + r) ≡ length (flat es) + w * r = mul-add w q r ∙ rw long in
       let back : drop (w * (q + r)) s ≡ replicate (length s - w * (q + r)) 0 =
-          ap (drop (w * (q + r))) is
-          ∙ ap (λ (k : ℕ). drop k (flat es ++ replicate (length s - length (flat es)) 0)) n
-          ∙ sym (drop-drop (w * r) (length (flat es)) (flat es ++ replicate (length s - length (flat es)) 0))
-          ∙ ap (drop (w * r)) (drop-at (flat es) (replicate (length s - length (flat es)) 0) (length (flat es)) refl)
-          ∙ drop-replicate (w * r) (length s - length (flat es))
-          ∙ (let k : length s - length (flat es) - w * r ≡ length s - w * (q + r) = omega (arith, n) in rw k) in
+      ap (drop (w * (q + r))) is
+      ∙ ap (λ (k : ℕ). drop k (flat es ++ replicate (length s - length (flat es)) 0)) n
+      ∙ sym (drop-drop (w * r) (length (flat es)) (flat es ++ replicate (length s - length (flat es)) 0))
+      ∙ ap (drop (w * r)) (drop-at (flat es) (replicate (length s - length (flat es)) 0) (length (flat es)) refl)
+      ∙ drop-replicate (w * r) (length s - length (flat es))
+      ∙ (let k : length s - length (flat es) - w * r ≡ length s - w * (q + r) = omega (arith, n) in rw k) in
       let count : length all ≡ q + r = length-placeAll (λ e. keyOf e) new es ∙ rw (l, many) in
       let total : length (flat all) ≡ w * (q + r) = length-flat w all (all-placeAll (λ e. keyOf e) (λ e. length e ≡ w) new es wn wide) ∙ rw count in
       rw (held, e, back, total)
@@ -166,8 +165,8 @@ module _ (w p : ℕ) (ps words : List ℕ) (order : List ℤ) (m : ℕ) (overs :
       let long : length (flat new) ≡ w * r = length-flat w new wide-new ∙ rw lr in
       let nroom : w * r ≤ length news = rw big (five w r (P .narrow) (omega (arith, P .few))) in
       let news-are : entries w r news ≡ new =
-          sym (entries-take w r news) ∙ ap (entries w r) en
-          ∙ ap (entries w r) (sym (append-nil (flat new))) ∙ ap (λ (k : ℕ). entries w k (flat new ++ [])) (sym lr) ∙ entries-flat w new [] wide-new in
+      sym (entries-take w r news) ∙ ap (entries w r) en
+      ∙ ap (entries w r) (sym (append-nil (flat new))) ∙ ap (λ (k : ℕ). entries w k (flat new ++ [])) (sym lr) ∙ entries-flat w new [] wide-new in
       record {
         room = room;
         news-room = nroom;

@@ -1,15 +1,14 @@
 -- The references that the model's insertion leaves. Assumes nothing.
-use mathlib.Core.Path.{_≡_, refl, sym, ap, _∙_, subst}
-use mathlib.Core.Bool.{Bool, true, false, cond}
+use mathlib.Core.Path.{_≡_, refl, sym, ap, _∙_}
 use mathlib.Core.List.{List, [], _∷_, _++_, append-assoc}
 use mathlib.Core.Option.{Option, none, some}
-use Prim.Native.Nat.{ℕ, zero, suc, _+_, _*_, _-_, _≤_, _<_, max}
+use Prim.Native.Nat.{ℕ, zero, suc, _+_, _*_, _-_, _≤_, _<_}
 use native.Mathlib.Omega.{arith}
 use lib.ListN.{length, getD, take, set, replicate, length-append, length-set}
 use lib.Seq.{length-take-le, set-at, getD-at}
 use lib.Dec.{eqb}
 use borrow.Author.Tests.{eq-eqb, ne-eqb, eqb-true, eqb-false}
-use Rattle.lists.specs.Lists.{flat, All}
+use Rattle.lists.specs.Lists.{flat}
 use Rattle.lists.specs.Entries.{padded, Wide}
 use Rattle.lists.proofs.Tests.{test}
 use Rattle.lists.proofs.Keep.{length-flat, flat-append, flat-one, all-append}
@@ -27,7 +26,7 @@ pub references-headed : (w : ℕ) (z : Sizes) (x : Index) → length (x .rows) �
 unfolding write padded headed
 references-headed w z x h =
     let f : length (flat (rowEntries (x .rows) (x .vacant))) ≡ 4 * length (x .rows) =
-        length-flat 4 (rowEntries (x .rows) (x .vacant)) (wide-rows (x .rows) (x .vacant)) ∙ rw (length-rows (x .rows) (x .vacant)) in
+    length-flat 4 (rowEntries (x .rows) (x .vacant)) (wide-rows (x .rows) (x .vacant)) ∙ rw (length-rows (x .rows) (x .vacant)) in
     let e : 4 + 4 * z .R - suc (suc (suc (suc (length (flat (rowEntries (x .rows) (x .vacant))))))) ≡ 4 * (z .R - length (x .rows)) = omega arith in
     rw e
 

@@ -1,17 +1,17 @@
 -- The table of an insertion's refusals, on a store's words. Assumes nothing.
-use mathlib.Core.Path.{_≡_, refl, sym, ap, _∙_}
+use mathlib.Core.Path.{_≡_, ap, _∙_}
 use mathlib.Core.Bool.{Bool, true, false, cond, _&&_}
 use mathlib.Core.List.{List}
 use mathlib.Core.Option.{Option, none, some}
 use Prim.Native.Nat.{ℕ, _+_, _≤_}
-use lib.ListN.{length, getD, drop}
+use lib.ListN.{length, drop}
 use lib.Dec.{eqb, ltb}
 use Rattle.model.specs.Fingerprints.{fingerprintOf, hashesOf, malformed, referenceMost}
 use Rattle.model.specs.Index.{Index, posted, unskipped, isStopped, stoppedAfter, newId, inserted}
-use Rattle.model.specs.Calls.{Store, holds, content, Answer, stored, refused, refusal, insertTests, Outcome, outcome, insertStep}
+use Rattle.model.specs.Calls.{holds, content, Answer, stored, refused, insertTests, outcome, insertStep}
 use Rattle.model.specs.Words.{Words, sizesOf, listed, write, readIndex}
 use Rattle.model.specs.Soundness.{soundWords}
-use Rattle.model.specs.Run.{storeOf, laidOut, onWords}
+use Rattle.model.specs.Run.{storeOf, onWords}
 use Rattle.model.proofs.Stores.{sound-again, store-holds, store-again}
 use Rattle.soundness.specs.Scan.{refusalOf}
 use Rattle.soundness.proofs.Refusal.{refused-first}

@@ -1,18 +1,17 @@
 -- The words of a recording's row. Assumes nothing.
-use mathlib.Core.Path.{_≡_, refl, sym, ap, _∙_}
-use mathlib.Core.Bool.{true, false, cond}
+use mathlib.Core.Path.{_≡_, refl, sym, _∙_}
+use mathlib.Core.Bool.{cond}
 use mathlib.Core.List.{List, [], _∷_, _++_, map}
-use Prim.Native.Nat.{ℕ, zero, suc, _+_, _*_, _-_, _/_, _%_, _≤_, _<_, max}
+use Prim.Native.Nat.{ℕ, _+_, _*_, _/_, _%_, _≤_, _<_, max}
 use native.Mathlib.Numerals.{add-one}
 use native.Mathlib.Omega.{arith}
-use lib.ListN.{length, getD, take, drop}
+use lib.ListN.{length, getD}
 use lib.Seq.{getD-drop}
-use lib.Dec.{eqb}
-use lib.Ieee.{binary32, nanBits, hid, ones, top}
+use lib.Ieee.{binary32, hid, ones, top}
 use lib.Ieee.Bits.{nanBits-above}
-use borrow.Author.Tests.{lt-ltb, le-ltb, eq-eqb, ne-eqb}
+use borrow.Author.Tests.{lt-ltb, le-ltb, ne-eqb}
 use Rattle.lists.specs.Entries.{entries, entryAt}
-use Rattle.lists.proofs.Entries.{entries-none, entries-suc, entry-word}
+use Rattle.lists.proofs.Entries.{entries-suc, entry-word}
 use Rattle.model.specs.Fingerprints.{Hash, hashOf, hashesOf}
 use Rattle.model.specs.Rows.{canonical, noRate, isWang, anchor, largestAnchor}
 use Rattle.merging.proofs.Taken.{map-append}

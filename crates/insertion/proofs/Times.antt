@@ -1,16 +1,16 @@
 -- How often a key stands in a list decides whether it is there. Assumes nothing.
-use mathlib.Core.Path.{_≡_, refl, sym, ap, _∙_, subst}
+use mathlib.Core.Path.{_≡_, refl, sym, ap, _∙_}
 use mathlib.Core.Bool.{Bool, true, false, _||_}
-use mathlib.Core.List.{List, [], _∷_, _++_, map}
-use Prim.Native.Nat.{ℕ, zero, suc, _+_, _≤_, _<_}
+use mathlib.Core.List.{List, [], _∷_, map}
+use Prim.Native.Nat.{ℕ, suc, _+_, _≤_, _<_}
 use native.Mathlib.Omega.{arith}
 use lib.ListN.{length, length-append, length-map}
 use lib.Dec.{eqb, ltb}
-use borrow.Author.Tests.{eqb-true, eqb-false, eq-eqb, ne-eqb, lt-ltb, le-ltb, ltb-true, ltb-false}
+use borrow.Author.Tests.{eqb-true, eqb-false, eq-eqb, ne-eqb, lt-ltb, ltb-true, ltb-false}
 use Rattle.lists.specs.Lists.{keep, some?, member, All}
-use Rattle.lists.specs.Keys.{under, hasKey, Sorted, Ascending, placeAll}
+use Rattle.lists.specs.Keys.{under, Sorted, Ascending, placeAll}
 use Rattle.lists.proofs.Tests.{test}
-use Rattle.lists.proofs.Keep.{keep-yes, keep-no, keep-nil, keep-none, keep-append, all-imp}
+use Rattle.lists.proofs.Keep.{keep-yes, keep-none, keep-append, all-imp}
 use Rattle.lists.proofs.Place.{sorted-ext, sorted-keep, sorted-placeAll, under-placeAll, under-map}
 use Rattle.lists.proofs.Ascending.{ascending-sorted}
 use Rattle.merging.specs.Order.{times}
@@ -60,8 +60,7 @@ times-none k (x ∷ l) h =
 ascending-once : (l : List ℕ) → Sorted (λ k. k) l → ((k : ℕ) → times k l ≤ 1) → Ascending (λ k. k) l
 ascending-once [] s h = tt
 ascending-once (x ∷ l) s h =
-    let z : times x l ≡ 0 = omega (arith, h x, times-here x l) in
-    (
+    let z : times x l ≡ 0 = omega (arith, h x, times-here x l) in (
       all-imp (λ (y : ℕ). (x ≤ y) × (y ≡ x → ⊥)) (λ (y : ℕ). x < y) (λ y q. omega (arith, q .0, q .1)) l
           (Rattle.lists.proofs.Keep.all-both (λ (y : ℕ). x ≤ y) (λ (y : ℕ). y ≡ x → ⊥) l (s .0) (times-none x l z)),
       ascending-once l (s .1) (λ k. omega (arith, h k, times-more k x l)),

@@ -112,7 +112,16 @@ fn new_id(refs: &[u32], n: usize, v: usize) -> usize
 }
 
 // Recording id is written into the references, where n rows and v vacant entries are in use; p postings and k stopped keys are left.
-fn put_recording(refs: &mut [u32], n: usize, v: usize, id: usize, rate: u32, rmax: u32, p: usize, k: usize)
+fn put_recording(
+    refs: &mut [u32],
+    n: usize,
+    v: usize,
+    id: usize,
+    rate: u32,
+    rmax: u32,
+    p: usize,
+    k: usize,
+)
     requires { ⌜ Recording (now refs) n v id p k ⌝ }
     ensures { λ _. ⌜ now (refs .exit) ≡ recorded (now (refs .entry)) n v id rate rmax p k ⌝ }
 {
@@ -153,7 +162,16 @@ fn write_recording(
     let id = new_id(refs, h.rows, h.vacant);
     let q = place_news(posts, w, h.postings, hashes, id as u32, order, m, overs, n);
     stop_keys(stops, k, overs, n);
-    put_recording(refs, h.rows, h.vacant, id, canonical_rate(rate), row_max(hashes, w), q, k + n);
+    put_recording(
+        refs,
+        h.rows,
+        h.vacant,
+        id,
+        canonical_rate(rate),
+        row_max(hashes, w),
+        q,
+        k + n,
+    );
     id as u32
 }
 
@@ -182,7 +200,15 @@ fn is_full(refs: &[u32]) -> bool
 }
 
 // An insertion into a sound store that has a row left, of a fingerprint that is well formed.
-fn admit(refs: &mut [u32], posts: &mut [u32], stops: &mut [u32], hashes: &[u32], w: usize, rate: u32, limit: u32) -> Insertion
+fn admit(
+    refs: &mut [u32],
+    posts: &mut [u32],
+    stops: &mut [u32],
+    hashes: &[u32],
+    w: usize,
+    rate: u32,
+    limit: u32,
+) -> Insertion
     requires { ⌜ Ready w (words (now refs) (now posts) (now stops)) (now hashes) ⌝ }
     ensures { λ r. ⌜ insertionAnswer r ≡ insertRun w (words (now (refs .entry)) (now (posts .entry)) (now (stops .entry))) limit rate (now (hashes .entry)) .0 ⌝ }
     ensures { λ _. ⌜ now (refs .exit) ≡ insertRun w (words (now (refs .entry)) (now (posts .entry)) (now (stops .entry))) limit rate (now (hashes .entry)) .1 .references ⌝ }
@@ -208,7 +234,15 @@ fn admit(refs: &mut [u32], posts: &mut [u32], stops: &mut [u32], hashes: &[u32],
 }
 
 // Inserts a recording with the hashes of a fingerprint, w - 1 words each. A key that then has more postings than the limit is stopped.
-pub fn insert(refs: &mut [u32], posts: &mut [u32], stops: &mut [u32], hashes: &[u32], w: usize, rate: u32, limit: u32) -> Insertion
+pub fn insert(
+    refs: &mut [u32],
+    posts: &mut [u32],
+    stops: &mut [u32],
+    hashes: &[u32],
+    w: usize,
+    rate: u32,
+    limit: u32,
+) -> Insertion
     requires { ⌜ (3 ≤ w) × (w ≤ 5) ⌝ }
     ensures { λ r. ⌜ insertionAnswer r ≡ insertRun w (words (now (refs .entry)) (now (posts .entry)) (now (stops .entry))) limit rate (now (hashes .entry)) .0 ⌝ }
     ensures { λ _. ⌜ now (refs .exit) ≡ insertRun w (words (now (refs .entry)) (now (posts .entry)) (now (stops .entry))) limit rate (now (hashes .entry)) .1 .references ⌝ }

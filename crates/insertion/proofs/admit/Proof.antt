@@ -1,23 +1,13 @@
 -- `insertion::admit` meets its contract. Assumes nothing.
 use mathlib.Core.Path.{_≡_, refl, sym, ap, _∙_}
-use mathlib.Core.List.{List}
-use Prim.Native.Nat.{ℕ, _+_, _*_, _-_, _≤_, _<_}
 use native.Mathlib.Omega.{arith}
-use lib.IntN.{ℤ}
-use lib.ListN.{length, getD, take}
+use lib.ListN.{length}
 use Rattle.model.specs.Calls.{Answer}
 use Rattle.model.specs.Words.{Words}
 use Rattle.insertion.proofs.Admitted as admitted
 use borrow.Author.Needs.{needs}
 use Rattle.insertion.proofs.admit.Statement.{statement}
 use Rattle.insertion.proofs.admit.Tie as tie
-use Rattle.insertion.proofs.admit.Reads as reads
-use Rattle.insertion.proofs.admit.Lts as lts
-use Rattle.insertion.proofs.write_recording.Reads as write-recording-reads
-use Rattle.merging.proofs.collect.Reads as collect-reads
-use Rattle.merging.proofs.over_keys.Reads as over-keys-reads
-use Rattle.rows.proofs.header.Reads as header-reads
-use Rattle.sorting.proofs.sort_words.Reads as sort-words-reads
 
 -- once the header is read
 module _ (d : tie.After-header) where
@@ -48,57 +38,46 @@ module _ (d : tie.After-over-keys) where
   over-long : length (d .over-keys .last .0) ≡ 8192
   over-long = d .over-keys .kept .0
 
--- src/lib.rt:192:9
 header-requires : tie.Need-header-requires
-header-requires c κs = 
+header-requires c κs =
     let s0 = c .before .before .before .before .before in
     admitted.head-in (s0 .args .w) (s0 .args .refs .now) (s0 .args .posts .now) (s0 .args .stops .now) (s0 .args .hashes .now) (s0 .args .limit) (s0 .args .rate) (s0 .pre)
 
--- src/lib.rt:195:13
 sub-v : tie.Need-sub-v
 sub-v c = search needs
 
--- src/lib.rt:197:30
 slice-aggregate-collect : tie.Need-slice-aggregate-collect
 slice-aggregate-collect c = search needs
 
--- src/lib.rt:197:53
 div-collect : tie.Need-div-collect
 div-collect c = search needs
 
--- src/lib.rt:197:9
 collect-requires : tie.Need-collect-requires
-collect-requires c κs = 
+collect-requires c κs =
     let hd0 = c .before .before in
     let C = admitted.collectable (s hd0 .args .w) (s hd0 .args .refs .now) (s hd0 .args .posts .now) (s hd0 .args .stops .now) (s hd0 .args .hashes .now) (s hd0 .args .limit) (s hd0 .args .rate) (s hd0 .pre) (hd0 .header .result) (hd0 .header .ensures) _ refl in
     ((C .words-some, C .whole, C .small, C .room), (C .stopped, C .ascend))
 
--- src/lib.rt:198:8
 div-if1 : tie.Need-div-if1
 div-if1 c = search needs
 
--- src/lib.rt:198:26
 add-if1 : tie.Need-add-if1
-add-if1 c = 
+add-if1 c =
     let co = c .before in
     let hd0 = hd co in
     omega (arith, admitted.postings-sum (s hd0 .args .w) (s hd0 .args .refs .now) (s hd0 .args .posts .now) (s hd0 .args .stops .now) (s hd0 .args .hashes .now) (s hd0 .args .limit) (s hd0 .args .rate) (s hd0 .pre) (hd0 .header .result) (hd0 .header .ensures) (co .collect .result) (co .collect .ensures .0))
 
--- src/lib.rt:199:9
 same-length : tie.Need-same-length
 same-length c = search needs
 
--- src/lib.rt:199:9
 same-length-2 : tie.Need-same-length-2
 same-length-2 c = search needs
 
--- src/lib.rt:199:9
 returns : tie.Need-returns
-returns c = 
+returns c =
     let co = c .before .before in
     let hd0 = hd co in
-    let e = admitted.refused-six (s hd0 .args .w) (s hd0 .args .refs .now) (s hd0 .args .posts .now) (s hd0 .args .stops .now) (s hd0 .args .hashes .now) (s hd0 .args .limit) (s hd0 .args .rate) (s hd0 .pre) (hd0 .header .result) (hd0 .header .ensures) (co .collect .result) (co .collect .ensures .0) (c .if1 .taken) in
-    (
+    let e = admitted.refused-six (s hd0 .args .w) (s hd0 .args .refs .now) (s hd0 .args .posts .now) (s hd0 .args .stops .now) (s hd0 .args .hashes .now) (s hd0 .args .limit) (s hd0 .args .rate) (s hd0 .pre) (hd0 .header .result) (hd0 .header .ensures) (co .collect .result) (co .collect .ensures .0) (c .if1 .taken) in (
       sym (ap (λ (o : Answer × Words). o .0) e),
       (
         sym (ap (λ (o : Answer × Words). o .1 .references) e),
@@ -106,32 +85,26 @@ returns c =
       ),
     )
 
--- src/lib.rt:201:25
 slice-aggregate-sort-words : tie.Need-slice-aggregate-sort-words
 slice-aggregate-sort-words c = search needs
 
--- src/lib.rt:201:5
 sort-words-requires : tie.Need-sort-words-requires
-sort-words-requires c κs = 
+sort-words-requires c κs =
     let co = c .before .before .before in
     let hd0 = hd co in
     omega (arith, long co, admitted.few-new (s hd0 .args .w) (s hd0 .args .refs .now) (s hd0 .args .posts .now) (s hd0 .args .stops .now) (s hd0 .args .hashes .now) (s hd0 .args .limit) (s hd0 .args .rate) (s hd0 .pre) (hd0 .header .result) (hd0 .header .ensures) (co .collect .result) (co .collect .ensures .0))
 
--- src/lib.rt:203:32
 slice-aggregate-over-keys : tie.Need-slice-aggregate-over-keys
 slice-aggregate-over-keys c = search needs
 
--- src/lib.rt:203:44
 slice-aggregate-over-keys-2 : tie.Need-slice-aggregate-over-keys-2
 slice-aggregate-over-keys-2 c = search needs
 
--- src/lib.rt:203:9
 over-keys-requires : tie.Need-over-keys-requires
-over-keys-requires c κs = 
+over-keys-requires c κs =
     let so = c .before .before .before .before in
     let co = col so in
-    let hd0 = hd co in
-    (
+    let hd0 = hd co in (
       (
         admitted.by-key (s hd0 .args .w) (s hd0 .args .refs .now) (s hd0 .args .posts .now) (s hd0 .args .stops .now) (s hd0 .args .hashes .now) (s hd0 .args .limit) (s hd0 .args .rate) (s hd0 .pre) (hd0 .header .result) (hd0 .header .ensures) (co .collect .result) (co .collect .ensures .0) (co .collect .last .0) (so .sort-words .last .0) (co .collect .ensures .1) (so .sort-words .ensures .0) (sorted-long so) (λ t. hd0 .before .before .shared-slice-known .given t .fits),
         omega (arith, admitted.few-new (s hd0 .args .w) (s hd0 .args .refs .now) (s hd0 .args .posts .now) (s hd0 .args .stops .now) (s hd0 .args .hashes .now) (s hd0 .args .limit) (s hd0 .args .rate) (s hd0 .pre) (hd0 .header .result) (hd0 .header .ensures) (co .collect .result) (co .collect .ensures .0)),
@@ -139,36 +112,30 @@ over-keys-requires c κs =
       (omega (arith, s hd0 .pre .wide), admitted.posts-fit (s hd0 .args .w) (s hd0 .args .refs .now) (s hd0 .args .posts .now) (s hd0 .args .stops .now) (s hd0 .args .hashes .now) (s hd0 .args .limit) (s hd0 .args .rate) (s hd0 .pre) (hd0 .header .result) (hd0 .header .ensures) (co .collect .result) (co .collect .ensures .0) (co .collect .last .0) (so .sort-words .last .0) (co .collect .ensures .1) (so .sort-words .ensures .0) (sorted-long so), admitted.posts-ascend (s hd0 .args .w) (s hd0 .args .refs .now) (s hd0 .args .posts .now) (s hd0 .args .stops .now) (s hd0 .args .hashes .now) (s hd0 .args .limit) (s hd0 .args .rate) (s hd0 .pre) (hd0 .header .result) (hd0 .header .ensures) (co .collect .result) (co .collect .ensures .0) (co .collect .last .0) (so .sort-words .last .0) (co .collect .ensures .1) (so .sort-words .ensures .0) (sorted-long so)),
     )
 
--- src/lib.rt:204:22
 add-if2 : tie.Need-add-if2
-add-if2 c = 
+add-if2 c =
     let ov = c .before in
     let so = srt ov in
     let co = col so in
     let hd0 = hd co in
     omega (arith, admitted.stopped-sum (s hd0 .args .w) (s hd0 .args .refs .now) (s hd0 .args .posts .now) (s hd0 .args .stops .now) (s hd0 .args .hashes .now) (s hd0 .args .limit) (s hd0 .args .rate) (s hd0 .pre) (hd0 .header .result) (hd0 .header .ensures) (co .collect .result) (co .collect .ensures .0) (co .collect .last .0) (so .sort-words .last .0) (co .collect .ensures .1) (so .sort-words .ensures .0) (sorted-long so) (ov .over-keys .last .0) (ov .over-keys .result) (ov .over-keys .ensures .0) (over-long ov) (ov .over-keys .ensures .1))
 
--- src/lib.rt:205:9
 same-length-3 : tie.Need-same-length-3
 same-length-3 c = search needs
 
--- src/lib.rt:205:9
 same-length-4 : tie.Need-same-length-4
 same-length-4 c = search needs
 
--- src/lib.rt:205:9
 same-length-5 : tie.Need-same-length-5
 same-length-5 c = search needs
 
--- src/lib.rt:205:9
 returns-2 : tie.Need-returns-2
-returns-2 c = 
+returns-2 c =
     let ov = c .before .before in
     let so = srt ov in
     let co = col so in
     let hd0 = hd co in
-    let e = admitted.refused-seven (s hd0 .args .w) (s hd0 .args .refs .now) (s hd0 .args .posts .now) (s hd0 .args .stops .now) (s hd0 .args .hashes .now) (s hd0 .args .limit) (s hd0 .args .rate) (s hd0 .pre) (hd0 .header .result) (hd0 .header .ensures) (co .collect .result) (co .collect .ensures .0) (co .collect .last .0) (so .sort-words .last .0) (co .collect .ensures .1) (so .sort-words .ensures .0) (sorted-long so) (ov .over-keys .last .0) (ov .over-keys .result) (ov .over-keys .ensures .0) (over-long ov) (ov .over-keys .ensures .1) (so .before .before .if1 .left) (c .if2 .taken) in
-    (
+    let e = admitted.refused-seven (s hd0 .args .w) (s hd0 .args .refs .now) (s hd0 .args .posts .now) (s hd0 .args .stops .now) (s hd0 .args .hashes .now) (s hd0 .args .limit) (s hd0 .args .rate) (s hd0 .pre) (hd0 .header .result) (hd0 .header .ensures) (co .collect .result) (co .collect .ensures .0) (co .collect .last .0) (so .sort-words .last .0) (co .collect .ensures .1) (so .sort-words .ensures .0) (sorted-long so) (ov .over-keys .last .0) (ov .over-keys .result) (ov .over-keys .ensures .0) (over-long ov) (ov .over-keys .ensures .1) (so .before .before .if1 .left) (c .if2 .taken) in (
       sym (ap (λ (o : Answer × Words). o .0) e),
       (
         sym (ap (λ (o : Answer × Words). o .1 .references) e),
@@ -176,17 +143,14 @@ returns-2 c =
       ),
     )
 
--- src/lib.rt:207:76
 slice-aggregate-write-recording : tie.Need-slice-aggregate-write-recording
 slice-aggregate-write-recording c = search needs
 
--- src/lib.rt:207:87
 slice-aggregate-write-recording-2 : tie.Need-slice-aggregate-write-recording-2
 slice-aggregate-write-recording-2 c = search needs
 
--- src/lib.rt:207:23
 write-recording-requires : tie.Need-write-recording-requires
-write-recording-requires c κs = 
+write-recording-requires c κs =
     let el = c .before .before .before .before .before in
     let ov = el .before .before in
     let so = srt ov in
@@ -194,21 +158,17 @@ write-recording-requires c κs =
     let hd0 = hd co in
     admitted.may-write (s hd0 .args .w) (s hd0 .args .refs .now) (s hd0 .args .posts .now) (s hd0 .args .stops .now) (s hd0 .args .hashes .now) (s hd0 .args .limit) (s hd0 .args .rate) (s hd0 .pre) (hd0 .header .result) (hd0 .header .ensures) (co .collect .result) (co .collect .ensures .0) (co .collect .last .0) (so .sort-words .last .0) (co .collect .ensures .1) (so .sort-words .ensures .0) (sorted-long so) (ov .over-keys .last .0) (ov .over-keys .result) (ov .over-keys .ensures .0) (over-long ov) (ov .over-keys .ensures .1) (so .before .before .if1 .left) (el .if2 .left)
 
--- src/lib.rt:185:1
 same-length-6 : tie.Need-same-length-6
 same-length-6 c = search needs
 
--- src/lib.rt:185:1
 same-length-7 : tie.Need-same-length-7
 same-length-7 c = search needs
 
--- src/lib.rt:185:1
 same-length-8 : tie.Need-same-length-8
 same-length-8 c = search needs
 
--- src/lib.rt:185:1
 returns-3 : tie.Need-returns-3
-returns-3 c = 
+returns-3 c =
     let wr = c .before .before .before .before .before .before in
     let el = wr .before .before .before .before .before .before in
     let ov = el .before .before in
@@ -216,8 +176,7 @@ returns-3 c =
     let co = col so in
     let hd0 = hd co in
     let f = so .before .before .if1 .left in
-    let g = el .if2 .left in
-    (
+    let g = el .if2 .left in (
       admitted.answers (s hd0 .args .w) (s hd0 .args .refs .now) (s hd0 .args .posts .now) (s hd0 .args .stops .now) (s hd0 .args .hashes .now) (s hd0 .args .limit) (s hd0 .args .rate) (s hd0 .pre) (hd0 .header .result) (hd0 .header .ensures) (co .collect .result) (co .collect .ensures .0) (co .collect .last .0) (so .sort-words .last .0) (co .collect .ensures .1) (so .sort-words .ensures .0) (sorted-long so) (ov .over-keys .last .0) (ov .over-keys .result) (ov .over-keys .ensures .0) (over-long ov) (ov .over-keys .ensures .1) f g _ (wr .write-recording .ensures .0),
       (
         admitted.leaves-references (s hd0 .args .w) (s hd0 .args .refs .now) (s hd0 .args .posts .now) (s hd0 .args .stops .now) (s hd0 .args .hashes .now) (s hd0 .args .limit) (s hd0 .args .rate) (s hd0 .pre) (hd0 .header .result) (hd0 .header .ensures) (co .collect .result) (co .collect .ensures .0) (co .collect .last .0) (so .sort-words .last .0) (co .collect .ensures .1) (so .sort-words .ensures .0) (sorted-long so) (ov .over-keys .last .0) (ov .over-keys .result) (ov .over-keys .ensures .0) (over-long ov) (ov .over-keys .ensures .1) f g _ (wr .write-recording .ensures .1 .0),

@@ -1,16 +1,11 @@
 -- `insertion::canonical_rate` meets its contract. Assumes nothing.
-use native.Mathlib.Omega.{arith}
 use Rattle.insertion.proofs.RowWords.{canonical-nan, canonical-same}
 use Rattle.insertion.proofs.canonical_rate.Statement.{statement}
 use Rattle.insertion.proofs.canonical_rate.Tie as tie
-use Rattle.insertion.proofs.canonical_rate.Reads as reads
-use Rattle.insertion.proofs.canonical_rate.Lts as lts
 
--- src/lib.rt:56:9
 returns : tie.Need-returns
 returns c = canonical-nan (c .before .args .rate) (c .if1 .taken)
 
--- src/lib.rt:52:1
 returns-2 : tie.Need-returns-2
 returns-2 c = canonical-same (c .before .args .rate) (c .if1 .left)
 

@@ -1,27 +1,19 @@
 -- `insertion::insert` meets its contract. Assumes nothing.
-use mathlib.Core.Path.{_≡_, refl, sym, ap, _∙_}
-use mathlib.Core.Bool.{true, false}
-use Prim.Native.Nat.{ℕ, _+_, _≤_}
+use mathlib.Core.Path.{_≡_, sym, ap, _∙_}
+use mathlib.Core.Bool.{true}
+use Prim.Native.Nat.{_≤_}
 use native.Mathlib.Omega.{arith}
 use Rattle.model.specs.Calls.{Answer, refused}
 use Rattle.model.specs.Words.{Words, listed}
 use Rattle.model.specs.Soundness.{soundWords}
 use Rattle.soundness.specs.Scan.{words, refusalOf}
 use Rattle.soundness.proofs.Refusal.{accepted}
-use Rattle.insertion.specs.Insert.{insertRun}
 use Rattle.insertion.proofs.Admission.{full-is, rooms}
 use Rattle.insertion.proofs.Refusals.{refused-early, refused-3, refused-5}
 use borrow.Author.Needs.{needs}
 use Rattle.insertion.proofs.insert.Statement.{statement}
 use Rattle.insertion.proofs.insert.Tie as tie
-use Rattle.insertion.proofs.insert.Reads as reads
-use Rattle.insertion.proofs.insert.Lts as lts
-use Rattle.insertion.proofs.admit.Reads as admit-reads
-use Rattle.insertion.proofs.is_full.Reads as is-full-reads
-use Rattle.insertion.proofs.is_malformed.Reads as is-malformed-reads
-use Rattle.soundness.proofs.refusal_of.Reads as refusal-of-reads
 
--- src/lib.rt:218:9
 -- once the store is looked at
 module _ (d : tie.After-refusal-of) where
   abbrev s : tie.Start
@@ -47,25 +39,20 @@ module _ (c : tie.Else1) where
 refusal-of-requires : tie.Need-refusal-of-requires
 refusal-of-requires c κs = search needs
 
--- src/lib.rt:220:9
 same-length : tie.Need-same-length
 same-length c = search needs
 
--- src/lib.rt:220:9
 same-length-2 : tie.Need-same-length-2
 same-length-2 c = search needs
 
--- src/lib.rt:220:9
 same-length-3 : tie.Need-same-length-3
 same-length-3 c = search needs
 
--- src/lib.rt:220:9
 returns : tie.Need-returns
-returns c = 
+returns c =
     let r = c .before in
     let q = r .refusal-of .ensures in
-    let e = refused-early (s r .args .w) (m r) (s r .args .limit) (s r .args .rate) (s r .args .hashes .now) (w2 r) (λ z. c .if1 .taken (q ∙ z)) in
-    (
+    let e = refused-early (s r .args .w) (m r) (s r .args .limit) (s r .args .rate) (s r .args .hashes .now) (w2 r) (λ z. c .if1 .taken (q ∙ z)) in (
       ap refused q ∙ sym (ap (λ (o : Answer × Words). o .0) e),
       (
         sym (ap (λ (o : Answer × Words). o .1 .references) e),
@@ -73,29 +60,23 @@ returns c =
       ),
     )
 
--- src/lib.rt:222:8
 is-malformed-requires : tie.Need-is-malformed-requires
 is-malformed-requires c κs = search needs
 
--- src/lib.rt:223:9
 same-length-4 : tie.Need-same-length-4
 same-length-4 c = search needs
 
--- src/lib.rt:223:9
 same-length-5 : tie.Need-same-length-5
 same-length-5 c = search needs
 
--- src/lib.rt:223:9
 same-length-6 : tie.Need-same-length-6
 same-length-6 c = search needs
 
--- src/lib.rt:223:9
 returns-2 : tie.Need-returns-2
-returns-2 c = 
+returns-2 c =
     let g = c .before .before in
     let r = d g in
-    let e = refused-3 (s r .args .w) (m r) (s r .args .limit) (s r .args .rate) (s r .args .hashes .now) (w2 r) (sound g .0) (sound g .1) (sym (c .before .is-malformed .ensures) ∙ c .if2 .taken) in
-    (
+    let e = refused-3 (s r .args .w) (m r) (s r .args .limit) (s r .args .rate) (s r .args .hashes .now) (w2 r) (sound g .0) (sound g .1) (sym (c .before .is-malformed .ensures) ∙ c .if2 .taken) in (
       sym (ap (λ (o : Answer × Words). o .0) e),
       (
         sym (ap (λ (o : Answer × Words). o .1 .references) e),
@@ -103,35 +84,29 @@ returns-2 c =
       ),
     )
 
--- src/lib.rt:225:8
 is-full-requires : tie.Need-is-full-requires
-is-full-requires c κs = 
+is-full-requires c κs =
     let g = c .before .before .before in
     let r = d g in
     omega (arith, rooms (s r .args .w) (m r) (w2 r) (sound g .0) (sound g .1) .references)
 
--- src/lib.rt:226:9
 same-length-7 : tie.Need-same-length-7
 same-length-7 c = search needs
 
--- src/lib.rt:226:9
 same-length-8 : tie.Need-same-length-8
 same-length-8 c = search needs
 
--- src/lib.rt:226:9
 same-length-9 : tie.Need-same-length-9
 same-length-9 c = search needs
 
--- src/lib.rt:226:9
 returns-3 : tie.Need-returns-3
-returns-3 c = 
+returns-3 c =
     let mal = c .before .before .before .before in
     let g = mal .before in
     let r = d g in
     let e = refused-5 (s r .args .w) (m r) (s r .args .limit) (s r .args .rate) (s r .args .hashes .now) (w2 r) (sound g .0) (sound g .1)
-        (sym (mal .is-malformed .ensures) ∙ c .before .before .before .if2 .left)
-        (full-is (s r .args .w) (m r) (w2 r) (sound g .0) (sound g .1) ∙ sym (c .before .is-full .ensures) ∙ c .if3 .taken) in
-    (
+    (sym (mal .is-malformed .ensures) ∙ c .before .before .before .if2 .left)
+    (full-is (s r .args .w) (m r) (w2 r) (sound g .0) (sound g .1) ∙ sym (c .before .is-full .ensures) ∙ c .if3 .taken) in (
       sym (ap (λ (o : Answer × Words). o .0) e),
       (
         sym (ap (λ (o : Answer × Words). o .1 .references) e),
@@ -139,9 +114,8 @@ returns-3 c =
       ),
     )
 
--- src/lib.rt:228:5
 admit-requires : tie.Need-admit-requires
-admit-requires c κs = 
+admit-requires c κs =
     let el = c .before .before .before in
     let fu = el .before in
     let mal = fu .before .before .before in
@@ -156,19 +130,15 @@ admit-requires c κs =
       row-left = sym (fu .is-full .ensures) ∙ el .if3 .left;
     }
 
--- src/lib.rt:211:1
 same-length-10 : tie.Need-same-length-10
 same-length-10 c = search needs
 
--- src/lib.rt:211:1
 same-length-11 : tie.Need-same-length-11
 same-length-11 c = search needs
 
--- src/lib.rt:211:1
 same-length-12 : tie.Need-same-length-12
 same-length-12 c = search needs
 
--- src/lib.rt:211:1
 returns-4 : tie.Need-returns-4
 returns-4 c = search needs
 

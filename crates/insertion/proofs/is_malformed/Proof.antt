@@ -4,27 +4,20 @@ use Rattle.model.specs.Fingerprints.{malformed}
 use borrow.Author.Needs.{needs}
 use Rattle.insertion.proofs.is_malformed.Statement.{statement}
 use Rattle.insertion.proofs.is_malformed.Tie as tie
-use Rattle.insertion.proofs.is_malformed.Reads as reads
-use Rattle.insertion.proofs.is_malformed.Lts as lts
 
--- src/lib.rt:165:13
 sub-v : tie.Need-sub-v
 sub-v c = search needs
 
--- src/lib.rt:166:8
 rem-if1 : tie.Need-rem-if1
 rem-if1 c = search needs
 
--- src/lib.rt:167:9
 returns : tie.Need-returns
 unfolding malformed
 returns c = rw (ne-eqb _ 0 (c .if1 .taken))
 
--- src/lib.rt:169:12
 div-result : tie.Need-div-result
 div-result c = search needs
 
--- src/lib.rt:161:1
 returns-2 : tie.Need-returns-2
 unfolding malformed
 returns-2 c = rw (eq-eqb _ 0 (c .if1 .left))

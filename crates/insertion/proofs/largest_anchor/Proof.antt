@@ -1,21 +1,15 @@
 -- `insertion::largest_anchor` meets its contract. Assumes nothing.
-use mathlib.Core.Path.{_≡_, refl, sym, ap, _∙_}
+use mathlib.Core.Path.{_≡_}
 use mathlib.Core.List.{map}
-use Prim.Native.Nat.{_+_, _*_, _-_, _≤_, _<_, max}
+use Prim.Native.Nat.{_-_, _≤_}
 use native.Mathlib.Omega.{arith}
-use lib.ListN.{length}
 use Rattle.lists.specs.Entries.{entries}
 use Rattle.lists.proofs.Entries.{stride}
 use Rattle.model.specs.Fingerprints.{hashOf}
 use Rattle.model.specs.Rows.{largestAnchor}
-use Rattle.maps.proofs.Entries.{scale-le}
 use Rattle.insertion.proofs.RowWords.{largest-none, largest-more}
 use Rattle.insertion.proofs.largest_anchor.Statement.{statement}
 use Rattle.insertion.proofs.largest_anchor.Tie as tie
-use Rattle.insertion.proofs.largest_anchor.Reads as reads
-use Rattle.insertion.proofs.largest_anchor.Lts as lts
-use Rattle.insertion.proofs.larger.Reads as larger-reads
-use Rattle.postings.proofs.word.Reads as word-reads
 
 abbrev Inv-loop : tie.InvT-loop
 Inv-loop hashes v n top₀ j₀ top j = (j ≤ n) × (top ≡ largestAnchor (map hashOf (entries v j hashes)))
@@ -23,36 +17,29 @@ Inv-loop hashes v n top₀ j₀ top j = (j ≤ n) × (top ≡ largestAnchor (map
 abbrev μ-loop : tie.MeasureT-loop
 μ-loop hashes v n top₀ j₀ top j = n - j
 
--- src/lib.rt:77:5
 loop-holds : tie.Need-loop-holds Inv-loop μ-loop
 loop-holds c = (omega arith, largest-none _ _)
 
--- src/lib.rt:78:27
 word-requires : tie.Need-word-requires Inv-loop μ-loop
 word-requires c κs = let s = c .before .before .before in omega (arith, stride (s .args .v) (c .before .loop .j) (s .args .n) _ (c .loop-test .taken) (s .pre .1))
 
--- src/lib.rt:78:9
 larger-requires : tie.Need-larger-requires Inv-loop μ-loop
 larger-requires c κs = tt
 
--- src/lib.rt:79:9
 add-j : tie.Need-add-j Inv-loop μ-loop
 add-j c = omega (arith, c .before .before .before .before .before .fits .n)
 
--- src/lib.rt:77:5
 loop-less : tie.Need-loop-less Inv-loop μ-loop
 loop-less c = omega arith
 
--- src/lib.rt:77:5
 loop-again : tie.Need-loop-again Inv-loop μ-loop
-loop-again c = 
+loop-again c =
     let s = c .before .before .before .before .before in
     let l = c .before .before .before .loop in
     (omega arith, rw (c .larger .ensures, c .before .word .ensures, l .inv .1) (largest-more (s .args .v) (s .args .hashes .now) (l .j) (s .pre .0)))
 
--- src/lib.rt:71:1
 returns : tie.Need-returns Inv-loop μ-loop
-returns c = 
+returns c =
     let l = c .before .loop in
     let e : l .j ≡ c .before .before .before .args .n = omega arith in
     rw e at (l .inv .1)

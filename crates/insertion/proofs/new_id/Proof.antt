@@ -1,31 +1,22 @@
 -- `insertion::new_id` meets its contract. Assumes nothing.
-use mathlib.Core.Path.{_≡_, sym, _∙_}
+use mathlib.Core.Path.{_∙_}
 use borrow.Author.Tests.{eq-eqb, ne-eqb}
 use borrow.Author.Needs.{needs}
 use Rattle.insertion.proofs.new_id.Statement.{statement}
 use Rattle.insertion.proofs.new_id.Tie as tie
-use Rattle.insertion.proofs.new_id.Reads as reads
-use Rattle.insertion.proofs.new_id.Lts as lts
-use Rattle.rows.proofs.row_word.Reads as row-word-reads
-use Rattle.rows.proofs.size.Reads as size-reads
 
--- src/lib.rt:101:9
 returns : tie.Need-returns
 returns c = rw (eq-eqb _ 0 (c .if1 .taken))
 
--- src/lib.rt:103:31
 sub-row-word : tie.Need-sub-row-word
 sub-row-word c = search needs
 
--- src/lib.rt:103:10
 row-word-requires : tie.Need-row-word-requires
 row-word-requires c κs = search needs
 
--- src/lib.rt:103:5
 size-requires : tie.Need-size-requires
 size-requires c κs = search needs
 
--- src/lib.rt:96:1
 returns-2 : tie.Need-returns-2
 returns-2 c = rw (ne-eqb _ 0 (c .before .before .if1 .left)) (c .size .ensures ∙ c .before .row-word .ensures)
 

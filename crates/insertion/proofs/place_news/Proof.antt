@@ -1,22 +1,15 @@
 -- `insertion::place_news` meets its contract. Assumes nothing.
-use mathlib.Core.Path.{_≡_, refl, sym, ap, _∙_, subst}
-use Prim.Native.Nat.{ℕ, _+_, _*_, _-_, _≤_, _<_}
-use native.Mathlib.Nat.{le-trans, mul-le-mul-left}
+use mathlib.Core.Path.{_≡_, refl, _∙_, subst}
+use Prim.Native.Nat.{ℕ, _+_, _*_, _-_}
 use native.Mathlib.Omega.{arith}
 use lib.ListN.{length, take}
 use Rattle.lists.specs.Lists.{flat}
 use Rattle.maps.proofs.Entries.{scale-le}
 use Rattle.merging.specs.Order.{placesIn, entriesOf, without}
-use Rattle.insertion.specs.Writing.{Placing}
 use Rattle.insertion.proofs.Placed.{Merge, merge, width, room-for-news}
 use borrow.Author.Needs.{needs}
 use Rattle.insertion.proofs.place_news.Statement.{statement}
 use Rattle.insertion.proofs.place_news.Tie as tie
-use Rattle.insertion.proofs.place_news.Reads as reads
-use Rattle.insertion.proofs.place_news.Lts as lts
-use Rattle.merging.proofs.merge_in.Reads as merge-in-reads
-use Rattle.merging.proofs.write_news.Reads as write-news-reads
-use Rattle.postings.proofs.retain.Reads as retain-reads
 
 -- once the old entries are compacted and the new ones written
 module _ (c : tie.After-retain) where
@@ -41,49 +34,40 @@ module _ (c : tie.After-retain) where
       (c .retain .last .0) (wrote .write-news .last .0) (c .retain .result) (wrote .write-news .result)
       (c .retain .ensures .0) (c .retain .ensures .1) (wrote .write-news .ensures .0) long written
 
--- src/lib.rt:37:33
 slice-aggregate-write-news : tie.Need-slice-aggregate-write-news
 slice-aggregate-write-news c = search needs
 
--- src/lib.rt:37:62
 sub-write-news : tie.Need-sub-write-news
 sub-write-news c = search needs
 
--- src/lib.rt:37:9
 write-news-requires : tie.Need-write-news-requires
-write-news-requires c κs = 
+write-news-requires c κs =
     let s = c .before .before .before .before in
     let P = s .pre in
     ((omega (arith, P .wide), P .places, room-for-news (s .args .w) (s .args .m) _ (P .wide) (P .narrow) (P .few) refl), (P .overs-room, P .overs-ascend))
 
--- src/lib.rt:38:9
 retain-requires : tie.Need-retain-requires
 retain-requires c κs = search needs
 
--- src/lib.rt:39:36
 slice-aggregate-merge-in : tie.Need-slice-aggregate-merge-in
 slice-aggregate-merge-in c = search needs
 
--- src/lib.rt:39:5
 merge-in-requires : tie.Need-merge-in-requires
-merge-in-requires c κs = 
+merge-in-requires c κs =
     let d = c .before .before .before .before in
     let M = merges d in
     ((omega (arith, s d .pre .wide), M .room, M .news-room), (M .ascend, M .news-ascend))
 
--- src/lib.rt:40:5
 add-result : tie.Need-add-result
-add-result c = 
+add-result c =
     let d = c .before .before .before .before .before .before .before in
     omega (arith, merges d .small, s d .pre .room, scale-le (s d .args .w) (s d .args .p + s d .args .m) (omega (arith, s d .pre .wide)), s d .good)
 
--- src/lib.rt:20:1
 same-length : tie.Need-same-length
 same-length c = search needs
 
--- src/lib.rt:20:1
 returns : tie.Need-returns
-returns c = 
+returns c =
     let d = c .before .before .before .before .before .before .before in
     (merges d .many, c .before .before .merge-in .ensures ∙ merges d .result)
 

@@ -1,95 +1,70 @@
 -- `insertion::put_recording` meets its contract. Assumes nothing.
-use mathlib.Core.Path.{_≡_, sym, _∙_}
 use borrow.Author.Tests.{eq-eqb, ne-eqb}
 use Rattle.insertion.specs.Writing.{recorded}
 use borrow.Author.Needs.{needs}
 use Rattle.insertion.proofs.put_recording.Statement.{statement}
 use Rattle.insertion.proofs.put_recording.Tie as tie
-use Rattle.insertion.proofs.put_recording.Reads as reads
-use Rattle.insertion.proofs.put_recording.Lts as lts
-use Rattle.rows.proofs.put_entry.Reads as put-entry-reads
-use Rattle.rows.proofs.put_header.Reads as put-header-reads
-use Rattle.rows.proofs.put_row.Reads as put-row-reads
 
--- src/lib.rt:112:9
 put-row-requires : tie.Need-put-row-requires
 put-row-requires c κs = search needs
 
--- src/lib.rt:113:33
 add-put-header : tie.Need-add-put-header
 add-put-header c = search needs
 
--- src/lib.rt:113:32
 cast-put-header : tie.Need-cast-put-header
 cast-put-header c = search needs
 
--- src/lib.rt:113:51
 cast-put-header-2 : tie.Need-cast-put-header-2
 cast-put-header-2 c = search needs
 
--- src/lib.rt:113:61
 cast-put-header-3 : tie.Need-cast-put-header-3
 cast-put-header-3 c = search needs
 
--- src/lib.rt:113:9
 put-header-requires : tie.Need-put-header-requires
 put-header-requires c κs = search needs
 
--- src/lib.rt:115:31
 sub-put-entry : tie.Need-sub-put-entry
 sub-put-entry c = search needs
 
--- src/lib.rt:115:9
 put-entry-requires : tie.Need-put-entry-requires
 put-entry-requires c κs = search needs
 
--- src/lib.rt:116:9
 put-row-requires-2 : tie.Need-put-row-requires-2
 put-row-requires-2 c κs = search needs
 
--- src/lib.rt:117:32
 cast-put-header-4 : tie.Need-cast-put-header-4
 cast-put-header-4 c = search needs
 
--- src/lib.rt:117:43
 sub-put-header : tie.Need-sub-put-header
 sub-put-header c = search needs
 
--- src/lib.rt:117:42
 cast-put-header-5 : tie.Need-cast-put-header-5
 cast-put-header-5 c = search needs
 
--- src/lib.rt:117:58
 cast-put-header-6 : tie.Need-cast-put-header-6
 cast-put-header-6 c = search needs
 
--- src/lib.rt:117:68
 cast-put-header-7 : tie.Need-cast-put-header-7
 cast-put-header-7 c = search needs
 
--- src/lib.rt:117:9
 put-header-requires-2 : tie.Need-put-header-requires-2
 put-header-requires-2 c κs = search needs
 
--- src/lib.rt:107:1
 same-length : tie.Need-same-length
 same-length c = search needs
 
--- src/lib.rt:107:1
 returns : tie.Need-returns
 unfolding recorded
-returns c = 
+returns c =
     let d = c .before .before .before .before .before .before in
     rw (eq-eqb _ 0 (d .before .before .if1 .taken), c .before .before .put-header .ensures, d .put-row .ensures)
 
--- src/lib.rt:107:1
 same-length-2 : tie.Need-same-length-2
 same-length-2 c = search needs
 
--- src/lib.rt:107:1
 returns-2 : tie.Need-returns-2
 unfolding recorded
-returns-2 c = 
+returns-2 c =
     let d = c .before .before .before .before .before .before in
     let e = d .before .before .before .before in
     rw (ne-eqb _ 0 (e .before .before .if1 .left), c .before .before .put-header2 .ensures, d .put-row2 .ensures, e .put-entry .ensures)

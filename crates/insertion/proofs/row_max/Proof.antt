@@ -3,19 +3,13 @@ use Rattle.insertion.proofs.RowWords.{wang-max, other-max}
 use borrow.Author.Needs.{needs}
 use Rattle.insertion.proofs.row_max.Statement.{statement}
 use Rattle.insertion.proofs.row_max.Tie as tie
-use Rattle.insertion.proofs.row_max.Reads as reads
-use Rattle.insertion.proofs.row_max.Lts as lts
-use Rattle.insertion.proofs.largest_anchor.Reads as largest-anchor-reads
 
--- src/lib.rt:90:9
 largest-anchor-requires : tie.Need-largest-anchor-requires
 largest-anchor-requires c κs = search needs
 
--- src/lib.rt:90:9
 returns : tie.Need-returns
 returns c = let s = c .before .before .before in wang-max (s .args .w) (s .args .hashes .now) _ (c .before .if1 .taken) (c .largest-anchor .ensures)
 
--- src/lib.rt:85:1
 returns-2 : tie.Need-returns-2
 returns-2 c = let s = c .before .before in other-max (s .args .w) (s .args .hashes .now) (c .if1 .left)
 

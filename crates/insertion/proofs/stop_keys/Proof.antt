@@ -1,6 +1,5 @@
 -- `insertion::stop_keys` meets its contract. Assumes nothing.
-use mathlib.Core.Path.{_≡_, sym, _∙_}
-use Prim.Native.Nat.{_+_, _*_, _≤_}
+use mathlib.Core.Path.{_∙_}
 use native.Mathlib.Nat.{one-mul}
 use native.Mathlib.Omega.{arith}
 use Rattle.merging.proofs.Members.{ascend-words}
@@ -8,27 +7,20 @@ use Rattle.insertion.proofs.Placed.{stops-merged}
 use borrow.Author.Needs.{needs}
 use Rattle.insertion.proofs.stop_keys.Statement.{statement}
 use Rattle.insertion.proofs.stop_keys.Tie as tie
-use Rattle.insertion.proofs.stop_keys.Reads as reads
-use Rattle.insertion.proofs.stop_keys.Lts as lts
-use Rattle.merging.proofs.merge_in.Reads as merge-in-reads
 
--- src/lib.rt:48:5
 merge-in-requires : tie.Need-merge-in-requires
-merge-in-requires c κs = 
+merge-in-requires c κs =
     let s = c .before .before .before in
-    let P = s .pre in
-    (
+    let P = s .pre in (
       (omega arith, rw one-mul (P .room), rw one-mul (P .overs-room)),
       (ascend-words (s .args .stops .now) (s .args .k) (omega (arith, P .room)) (P .ascend), ascend-words (s .args .overs .now) (s .args .n) (P .overs-room) (P .overs-ascend)),
     )
 
--- src/lib.rt:44:1
 same-length : tie.Need-same-length
 same-length c = search needs
 
--- src/lib.rt:44:1
 returns : tie.Need-returns
-returns c = 
+returns c =
     let s = c .before .before .before .before .before .before in
     c .before .before .merge-in .ensures ∙ stops-merged (s .args .stops .now) (s .args .k) (s .args .overs .now) (s .args .n) (s .pre)
 

@@ -1,6 +1,6 @@
 -- `insertion::write_recording` meets its contract. Assumes nothing.
-use mathlib.Core.Path.{_≡_, refl, sym, ap, _∙_}
-use Prim.Native.Nat.{ℕ, _+_, _≤_, _<_}
+use mathlib.Core.Path.{_≡_, ap, _∙_}
+use Prim.Native.Nat.{ℕ, _+_}
 use native.Mathlib.Omega.{arith}
 use lib.ListN.{length, getD, take}
 use Rattle.lists.specs.Lists.{flat}
@@ -11,17 +11,7 @@ use Rattle.insertion.proofs.Wrote.{id-from, recorded-all, placing-from,
 use borrow.Author.Needs.{needs}
 use Rattle.insertion.proofs.write_recording.Statement.{statement}
 use Rattle.insertion.proofs.write_recording.Tie as tie
-use Rattle.insertion.proofs.write_recording.Reads as reads
-use Rattle.insertion.proofs.write_recording.Lts as lts
-use Rattle.insertion.proofs.canonical_rate.Reads as canonical-rate-reads
-use Rattle.insertion.proofs.new_id.Reads as new-id-reads
-use Rattle.insertion.proofs.place_news.Reads as place-news-reads
-use Rattle.insertion.proofs.put_recording.Reads as put-recording-reads
-use Rattle.insertion.proofs.row_max.Reads as row-max-reads
-use Rattle.insertion.proofs.stop_keys.Reads as stop-keys-reads
-use Rattle.rows.proofs.header.Reads as header-reads
 
--- src/lib.rt:151:9
 -- once the id is found
 module _ (d : tie.After-new-id) where
   abbrev s : tie.Start
@@ -36,71 +26,57 @@ module _ (d : tie.After-new-id) where
 header-requires : tie.Need-header-requires
 header-requires c κs = search needs
 
--- src/lib.rt:153:9
 new-id-requires : tie.Need-new-id-requires
 new-id-requires c κs = search needs
 
--- src/lib.rt:154:54
 cast-place-news : tie.Need-cast-place-news
 cast-place-news c = let d = c .before in omega (arith, id-small (s d .args .w) (s d .args .refs .now) (s d .args .posts .now) (s d .args .stops .now) (s d .args .hashes .now) (s d .args .order .now) (s d .args .m) (s d .args .overs .now) (s d .args .n) (s d .pre) (head d .header .result) (head d .header .ensures) (d .new-id .result) (id-is d))
 
--- src/lib.rt:154:9
 place-news-requires : tie.Need-place-news-requires
 place-news-requires c κs = let d = c .before in placing-from (s d .args .w) (s d .args .refs .now) (s d .args .posts .now) (s d .args .stops .now) (s d .args .hashes .now) (s d .args .order .now) (s d .args .m) (s d .args .overs .now) (s d .args .n) (s d .pre) (head d .header .result) (head d .header .ensures)
 
--- src/lib.rt:155:5
 stop-keys-requires : tie.Need-stop-keys-requires
 stop-keys-requires c κs = let d = c .before .before .before .before .before in stopping-from (s d .args .w) (s d .args .refs .now) (s d .args .posts .now) (s d .args .stops .now) (s d .args .hashes .now) (s d .args .order .now) (s d .args .m) (s d .args .overs .now) (s d .args .n) (s d .pre) (head d .header .result) (head d .header .ensures)
 
--- src/lib.rt:156:47
 canonical-rate-requires : tie.Need-canonical-rate-requires
 canonical-rate-requires c κs = search needs
 
--- src/lib.rt:156:69
 row-max-requires : tie.Need-row-max-requires
 row-max-requires c κs = search needs
 
--- src/lib.rt:156:92
 add-put-recording : tie.Need-add-put-recording
 add-put-recording c = search needs
 
--- src/lib.rt:156:5
 put-recording-requires : tie.Need-put-recording-requires
-put-recording-requires c κs = 
+put-recording-requires c κs =
     let e = c .before .before .before .before .before .before .before .before .before in
     let d = e .before .before in
     recording-from (s d .args .w) (s d .args .refs .now) (s d .args .posts .now) (s d .args .stops .now) (s d .args .hashes .now) (s d .args .order .now) (s d .args .m) (s d .args .overs .now) (s d .args .n) (s d .pre) (head d .header .result) (head d .header .ensures) (d .new-id .result) (e .place-news .result) (id-is d) (e .place-news .ensures .0)
 
--- src/lib.rt:157:5
 cast-result : tie.Need-cast-result
-cast-result c = 
+cast-result c =
     let e = c .before .before .before .before .before .before .before .before .before .before .before .before in
     let d = e .before .before in
     omega (arith, id-small (s d .args .w) (s d .args .refs .now) (s d .args .posts .now) (s d .args .stops .now) (s d .args .hashes .now) (s d .args .order .now) (s d .args .m) (s d .args .overs .now) (s d .args .n) (s d .pre) (head d .header .result) (head d .header .ensures) (d .new-id .result) (id-is d))
 
--- src/lib.rt:130:1
 same-length : tie.Need-same-length
 same-length c = search needs
 
--- src/lib.rt:130:1
 same-length-2 : tie.Need-same-length-2
 same-length-2 c = search needs
 
--- src/lib.rt:130:1
 same-length-3 : tie.Need-same-length-3
 same-length-3 c = search needs
 
--- src/lib.rt:130:1
 returns : tie.Need-returns
-returns c = 
+returns c =
     let put = c .before .before in
     let top = put .before in
     let rate = top .before in
     let stop = rate .before .before .before .before in
     let e = stop .before .before .before .before in
     let d = e .before .before in
-    let placed = placed-from (s d .args .w) (s d .args .refs .now) (s d .args .posts .now) (s d .args .stops .now) (s d .args .hashes .now) (s d .args .order .now) (s d .args .m) (s d .args .overs .now) (s d .args .n) (s d .pre) (head d .header .result) (head d .header .ensures) (d .new-id .result) (id-is d) in
-    (
+    let placed = placed-from (s d .args .w) (s d .args .refs .now) (s d .args .posts .now) (s d .args .stops .now) (s d .args .hashes .now) (s d .args .order .now) (s d .args .m) (s d .args .overs .now) (s d .args .n) (s d .pre) (head d .header .result) (head d .header .ensures) (d .new-id .result) (id-is d) in (
       id-is d,
       (
         put .put-recording .ensures ∙ recorded-all (s d .args .refs .now) (head d .header .result .rows) (getD (s d .args .refs .now) 0 0) (head d .header .result .vacant) (getD (s d .args .refs .now) 1 0)

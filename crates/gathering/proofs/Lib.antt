@@ -1,0 +1,4 @@
+-- Laws of ranks, codes and their order.
+pub mod Sorts
+pub mod Ranks
+pub mod Held

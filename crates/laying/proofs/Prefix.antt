@@ -1,0 +1,114 @@
+-- Laws of what a list begins with, after stores behind it. Assumes nothing.
+use mathlib.Core.Path.{_≡_, refl, ap, _∙_}
+use mathlib.Core.Logic.{_⊎_, inl, inr}
+use mathlib.Core.List.{List, [], _∷_, _++_, append-assoc, append-nil}
+use Prim.Native.Nat.{ℕ, suc, _+_, _*_, _-_, _≤_, _<_}
+use native.Mathlib.Nat.{mul-suc}
+use native.Mathlib.Numerals.{add-one}
+use native.Mathlib.Omega.{arith}
+use lib.ListN.{length, getD, take, drop, set, replicate, length-set, length-drop, replicate-append-replicate}
+use lib.Seq.{take-suc, take-suc-set, getD-drop, getD-set-same, getD-set-other}
+use Rattle.lists.specs.Lists.{flat, sum}
+use Rattle.lists.proofs.Keep.{flat-append, flat-one}
+use Rattle.gathering.specs.Codes.{listed}
+use Rattle.gathering.proofs.Ranks.{listed-more}
+use Rattle.laying.specs.Laid.{StartsTo}
+
+-- a word more behind what the list begins with
+pub put-behind : (s : List ℕ) (at x : ℕ) (front : List ℕ) → at < length s → take at s ≡ front → take (at + 1) (set s at x) ≡ front ++ x ∷ []
+put-behind s at x front h e = rw (add-one at) (take-suc-set s at x h ∙ ap (λ l. l ++ x ∷ []) e)
+
+-- ---- copying
+
+pub copy-none : (dst : List ℕ) (to : ℕ) (src : List ℕ) (from : ℕ) → take (to + 0) dst ≡ take to dst ++ take 0 (drop from src)
+copy-none dst to src from = let e : to + 0 ≡ to = omega arith in rw (e, append-nil)
+
+pub copy-more : (dst₀ dst : List ℕ) (to : ℕ) (src : List ℕ) (from j : ℕ) → to + j < length dst → from + j < length src
+    → take (to + j) dst ≡ take to dst₀ ++ take j (drop from src) → take (to + (j + 1)) (set dst (to + j) (getD src (from + j) 0)) ≡ take to dst₀ ++ take (j + 1) (drop from src)
+copy-more dst₀ dst to src from j h k e =
+    let x : ℕ = getD src (from + j) 0 in
+    let a : to + (j + 1) ≡ to + j + 1 = omega arith in
+    let q : take (suc j) (drop from src) ≡ take j (drop from src) ++ x ∷ [] =
+    take-suc (drop from src) j 0 (rw length-drop (omega arith)) ∙ ap (λ y. take j (drop from src) ++ y ∷ []) (getD-drop from src j 0) in
+    rw (a, add-one j, q) (put-behind dst (to + j) x (take to dst₀ ++ take j (drop from src)) h e ∙ append-assoc (take to dst₀) (take j (drop from src)) (x ∷ []))
+
+-- ---- two and four words
+
+pub put-two : (s : List ℕ) (at a b : ℕ) → at + 1 < length s → take (at + 2) (set (set s at a) (at + 1) b) ≡ take at s ++ a ∷ b ∷ []
+put-two s at a b h =
+    let e : at + 2 ≡ at + 1 + 1 = omega arith in
+    rw e (put-behind (set s at a) (at + 1) b (take at s ++ a ∷ []) (rw length-set h) (put-behind s at a (take at s) (omega arith) refl)
+    ∙ append-assoc (take at s) (a ∷ []) (b ∷ []))
+
+pub put-four : (s : List ℕ) (at a b c d : ℕ) → at + 3 < length s
+    → take (at + 4) (set (set (set (set s at a) (at + 1) b) (at + 2) c) (at + 3) d) ≡ take at s ++ a ∷ b ∷ c ∷ d ∷ []
+put-four s at a b c d h =
+    let s₂ = set (set s at a) (at + 1) b in
+    let l : length s₂ ≡ length s = length-set (set s at a) (at + 1) b ∙ length-set s at a in
+    let x : at + 2 + 1 ≡ at + 3 = omega arith in
+    let y : at + 2 + 2 ≡ at + 4 = omega arith in
+    let p = put-two s₂ (at + 2) c d (omega (arith, l)) in
+    rw (x, y) at p ∙ ap (λ m. m ++ c ∷ d ∷ []) (put-two s at a b (omega arith)) ∙ append-assoc (take at s) (a ∷ b ∷ []) (c ∷ d ∷ [])
+
+pub first-four : (s : List ℕ) (a b c d : ℕ) → 4 ≤ length s → set (set (set (set s 0 a) 1 b) 2 c) 3 d ≡ a ∷ b ∷ c ∷ d ∷ drop 4 s
+first-four [] a b c d h = absurd (omega arith)
+first-four (_ ∷ []) a b c d h = absurd (omega arith)
+first-four (_ ∷ _ ∷ []) a b c d h = absurd (omega arith)
+first-four (_ ∷ _ ∷ _ ∷ []) a b c d h = absurd (omega arith)
+first-four (_ ∷ _ ∷ _ ∷ _ ∷ s) a b c d h = refl
+
+-- ---- entries, one behind the other
+
+module _ (f : ℕ → List ℕ) (w : ℕ) where
+  pub lay-none : (s : List ℕ) (q : ℕ) → take (w * (q + 0)) s ≡ take (w * q) s ++ flat (listed f 0)
+  unfolding listed flat
+  lay-none s q = let e : q + 0 ≡ q = omega arith in rw (e, append-nil)
+
+  pub lay-more : (s₀ s s′ : List ℕ) (q t : ℕ) → take (w * (q + t)) s ≡ take (w * q) s₀ ++ flat (listed f t) → take (w * (q + t) + w) s′ ≡ take (w * (q + t)) s ++ f t
+      → take (w * (q + (t + 1))) s′ ≡ take (w * q) s₀ ++ flat (listed f (t + 1))
+  lay-more s₀ s s′ q t e g =
+      let a : q + (t + 1) ≡ suc (q + t) = omega arith in
+      rw (a, mul-suc w (q + t), listed-more f t, flat-append (listed f t) (f t ∷ []), flat-one (f t))
+      (g ∙ ap (λ l. l ++ f t) e ∙ append-assoc (take (w * q) s₀) (flat (listed f t)) (f t))
+
+-- ---- zeros
+
+pub zero-none : (s : List ℕ) (a : ℕ) → take a s ≡ take a s ++ replicate (a - a) 0
+zero-none s a = let e : a - a ≡ 0 = omega arith in rw (e, append-nil)
+
+pub zero-more : (s₀ s : List ℕ) (a i : ℕ) → a ≤ i → i < length s → take i s ≡ take a s₀ ++ replicate (i - a) 0 → take (i + 1) (set s i 0) ≡ take a s₀ ++ replicate (i + 1 - a) 0
+zero-more s₀ s a i h l e =
+    let n : i + 1 - a ≡ i - a + 1 = omega arith in
+    rw n (put-behind s i 0 (take a s₀ ++ replicate (i - a) 0) l e ∙ append-assoc (take a s₀) (replicate (i - a) 0) (0 ∷ [])
+    ∙ ap (λ m. take a s₀ ++ m) (replicate-append-replicate (i - a) 1 0))
+
+-- ---- first hashes
+
+pub starts-more : (starts lengths : List ℕ) (i total : ℕ) → i < length starts → total ≡ sum (take i lengths) → StartsTo starts lengths i → StartsTo (set starts i total) lengths (i + 1)
+starts-more starts lengths i total h e s k l = go (Rattle.lists.proofs.Tests.le-or-lt i k)
+  where
+    go : (i ≤ k) ⊎ (k < i) → getD (set starts i total) k 0 ≡ sum (take k lengths)
+    go (inl a) = let q : k ≡ i = omega arith in rw q (getD-set-same starts i total 0 h ∙ e)
+    go (inr b) = getD-set-other starts i k total 0 (λ q. omega arith) ∙ s k b
+
+-- ---- one entry
+
+pub entry-done : (p p′ : List ℕ) (w to key id : ℕ) (rest : List ℕ) → 2 ≤ w → to + w ≤ length p
+    → take (to + 2 + (w - 2)) p′ ≡ take (to + 2) (set (set p to key) (to + 1) id) ++ rest → take (to + w) p′ ≡ take to p ++ key ∷ id ∷ rest
+entry-done p p′ w to key id rest h l e =
+    let a : to + 2 + (w - 2) ≡ to + w = omega arith in
+    rw a at e ∙ ap (λ m. m ++ rest) (put-two p to key id (omega arith)) ∙ append-assoc (take to p) (key ∷ id ∷ []) rest
+
+-- ---- rows, one behind the other
+
+module _ (f : ℕ → List ℕ) where
+  pub rows-none : (s : List ℕ) → take (4 + 4 * 0) s ≡ take 4 s ++ flat (listed f 0)
+  unfolding listed flat
+  rows-none s = rw append-nil
+
+  pub rows-more : (s₀ s s′ : List ℕ) (i : ℕ) → take (4 + 4 * i) s ≡ take 4 s₀ ++ flat (listed f i) → take (4 + 4 * i + 4) s′ ≡ take (4 + 4 * i) s ++ f i
+      → take (4 + 4 * (i + 1)) s′ ≡ take 4 s₀ ++ flat (listed f (i + 1))
+  rows-more s₀ s s′ i e g =
+      let a : 4 + 4 * (i + 1) ≡ 4 + 4 * i + 4 = omega arith in
+      rw (a, listed-more f i, flat-append (listed f i) (f i ∷ []), flat-one (f i))
+      (g ∙ ap (λ l. l ++ f i) e ∙ append-assoc (take 4 s₀) (flat (listed f i)) (f i))

@@ -1,0 +1,2 @@
+-- Entries and rows as a build lays them down.
+pub mod Laid

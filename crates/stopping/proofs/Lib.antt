@@ -1,0 +1,7 @@
+-- Laws of keys over a limit, and of their counting and stopping.
+pub mod Over
+pub mod Counting
+pub mod Stops
+pub mod Moving
+pub mod Stopping
+pub mod Walk

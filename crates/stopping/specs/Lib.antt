@@ -1,0 +1,2 @@
+-- Keys over the limit.
+pub mod Over
