@@ -10,7 +10,7 @@ use lib.IntN.{ℤ, pos, natAbs, _+ℤ_, _-ℤ_, +ℤ-comm, +ℤ-negℤ-cancel}
 use lib.ListN.{length, getD, set, drop, length-set, length-drop}
 use lib.Seq.{getD-set-same, getD-set-other, drop-set-add}
 use borrow.Author.Count.{below-more}
-use Rattle.maps.specs.Sums.{sumTo, keep}
+use Rattle.maps.specs.Sums.{sumTo, when}
 use Rattle.maps.specs.Words.{SameOutside}
 use Rattle.maps.specs.Bins.{offset, votes, place}
 use Rattle.maps.proofs.Sums.{sum-zero, sum-cong, sum-next, sum-flat}
@@ -28,10 +28,10 @@ binned-none d low l = record {
   occupied = λ j h. absurd (not-suc-le-zero h);
   ascend = λ i j h k. absurd (not-suc-le-zero k);
   spanned = λ most m j h. absurd (not-suc-le-zero h);
-  held = λ p. sum-zero (λ j. keep (p (place l low j)) (votes l j)) ∙ sym (sum-zero (λ t. keep (p (d t)) 1));
+  held = λ p. sum-zero (λ j. when (p (place l low j)) (votes l j)) ∙ sym (sum-zero (λ t. when (p (d t)) 1));
 }
 
-keep-times : (b : Bool) (c : ℕ) → keep b 1 * c ≡ keep b c
+keep-times : (b : Bool) (c : ℕ) → when b 1 * c ≡ when b c
 keep-times true c = omega arith
 keep-times false c = omega arith
 
@@ -89,14 +89,14 @@ module _ (l : List ℤ) (low : ℤ) (n x c : ℕ) (room : 2 * n + 1 < length l) 
         held = held;
       }
     where
-      held : (p : ℕ → Bool) → sumTo (λ j. keep (p (place (grown l low n x c) low j)) (votes (grown l low n x c) j)) (n + 1) ≡ sumTo (λ t. keep (p (d t)) 1) (g + c)
+      held : (p : ℕ → Bool) → sumTo (λ j. when (p (place (grown l low n x c) low j)) (votes (grown l low n x c) j)) (n + 1) ≡ sumTo (λ t. when (p (d t)) 1) (g + c)
       held p =
-          let a = sum-next (λ j. keep (p (place (grown l low n x c) low j)) (votes (grown l low n x c) j)) n in
-          let b = sum-cong (λ j. keep (p (place (grown l low n x c) low j)) (votes (grown l low n x c) j)) (λ j. keep (p (place l low j)) (votes l j)) n (λ j h. ap₂ (λ (y v : ℕ). keep (p y) v) (old-place j h) (old-votes j h)) in
-          let e : keep (p (place (grown l low n x c) low n)) (votes (grown l low n x c) n) ≡ keep (p x) c = ap₂ (λ (y v : ℕ). keep (p y) v) new-place new-votes in
-          let f = sum-flat (λ t. keep (p (d t)) 1) g (g + c) (keep (p x) 1) (omega arith) (λ t h k. ap (λ (y : ℕ). keep (p y) 1) (same t h k)) in
+          let a = sum-next (λ j. when (p (place (grown l low n x c) low j)) (votes (grown l low n x c) j)) n in
+          let b = sum-cong (λ j. when (p (place (grown l low n x c) low j)) (votes (grown l low n x c) j)) (λ j. when (p (place l low j)) (votes l j)) n (λ j h. ap₂ (λ (y v : ℕ). when (p y) v) (old-place j h) (old-votes j h)) in
+          let e : when (p (place (grown l low n x c) low n)) (votes (grown l low n x c) n) ≡ when (p x) c = ap₂ (λ (y v : ℕ). when (p y) v) new-place new-votes in
+          let f = sum-flat (λ t. when (p (d t)) 1) g (g + c) (when (p x) 1) (omega arith) (λ t h k. ap (λ (y : ℕ). when (p y) 1) (same t h k)) in
           let m : g + c - g ≡ c = omega arith in
-          let k : keep (p x) 1 * (g + c - g) ≡ keep (p x) c = rw m (keep-times (p x) c) in
+          let k : when (p x) 1 * (g + c - g) ≡ when (p x) c = rw m (keep-times (p x) c) in
           omega (arith, a, b, e, f, k, B .held p)
 
 -- ---- the first i of g ascending places are binned, and what is left lies above the bins

@@ -8,14 +8,15 @@ use lib.Dec.{eqb, ltb}
 use lib.ListN.{length, getD, set, replicate}
 use lib.Seq.{getD-set-same, getD-set-other}
 use borrow.Author.Tests.{lt-ltb, eq-eqb, ne-eqb, eqb-true, eqb-false}
-use Rattle.maps.specs.Sums.{sumTo, keep}
-use Rattle.maps.proofs.Tests.{test, keep-le}
+use Rattle.lists.proofs.Tests.{test}
+use Rattle.maps.specs.Sums.{sumTo, when}
+use Rattle.maps.proofs.Tests.{when-le}
 use Rattle.maps.proofs.Sums.{sum-zero, sum-next}
 use Rattle.bins.specs.Distinct.{nearPlace, marked}
 
 -- 1 where vote t is one that marks position i
 abbrev hit : ℕ → ℕ → (ℕ → ℕ) → (ℕ → ℕ) → ℕ → ℕ → ℕ
-hit tol x d q i t = keep (eqb (q t) i && nearPlace tol x (d t)) 1
+hit tol x d q i t = when (eqb (q t) i && nearPlace tol x (d t)) 1
 
 pub marked-none : (tol x : ℕ) (d q : ℕ → ℕ) (i : ℕ) → marked tol x d q 0 i ≡ 0
 unfolding marked
@@ -23,16 +24,16 @@ marked-none tol x d q i = rw (sum-zero (hit tol x d q i)) refl
 
 pub marked-le : (tol x : ℕ) (d q : ℕ → ℕ) (g i : ℕ) → marked tol x d q g i ≤ 1
 unfolding marked
-marked-le tol x d q g i = keep-le (ltb 0 (sumTo (hit tol x d q i) g))
+marked-le tol x d q g i = when-le (ltb 0 (sumTo (hit tol x d q i) g))
 
 -- one vote more
-either : (n : ℕ) (b : Bool) → max (keep (ltb 0 n) 1) (keep b 1) ≡ keep (ltb 0 (n + keep b 1)) 1
-either n true = rw (lt-ltb 0 (n + 1) (omega arith)) (omega (arith, keep-le (ltb 0 n)))
+either : (n : ℕ) (b : Bool) → max (when (ltb 0 n) 1) (when b 1) ≡ when (ltb 0 (n + when b 1)) 1
+either n true = rw (lt-ltb 0 (n + 1) (omega arith)) (omega (arith, when-le (ltb 0 n)))
 either n false = let e : n + 0 ≡ n = omega arith in rw e (omega arith)
 
 module _ (tol x : ℕ) (d q : ℕ → ℕ) (t : ℕ) where
   -- of this position, or of another
-  same-mark : (i : ℕ) → q t ≡ i → marked tol x d q (t + 1) i ≡ max (marked tol x d q t i) (keep (nearPlace tol x (d t)) 1)
+  same-mark : (i : ℕ) → q t ≡ i → marked tol x d q (t + 1) i ≡ max (marked tol x d q t i) (when (nearPlace tol x (d t)) 1)
   unfolding marked
   same-mark i e = rw (sum-next (hit tol x d q i) t, eq-eqb (q t) i e) (sym (either (sumTo (hit tol x d q i) t) (nearPlace tol x (d t))))
 
@@ -42,7 +43,7 @@ module _ (tol x : ℕ) (d q : ℕ → ℕ) (t : ℕ) where
       let z : sumTo (hit tol x d q i) t + 0 ≡ sumTo (hit tol x d q i) t = omega arith in
       rw (sum-next (hit tol x d q i) t, ne-eqb (q t) i e, z) refl
 
-  pub mark-more : (seen : List ℕ) (p h : ℕ) → length seen ≡ 2048 → p ≡ q t → p < 2048 → h ≡ keep (nearPlace tol x (d t)) 1
+  pub mark-more : (seen : List ℕ) (p h : ℕ) → length seen ≡ 2048 → p ≡ q t → p < 2048 → h ≡ when (nearPlace tol x (d t)) 1
       → ((i : ℕ) → i < 2048 → getD seen i 0 ≡ marked tol x d q t i)
       → (i : ℕ) → i < 2048 → getD (set seen p (max (getD seen p 0) h)) i 0 ≡ marked tol x d q (t + 1) i
   mark-more seen p h len e lt k inv i l =

@@ -5,7 +5,7 @@ use mathlib.Core.List.{List}
 use Prim.Native.Nat.{ℕ, _+_, _*_, _≤_, _<_}
 use lib.IntN.{ℤ, pos, _+ℤ_}
 use lib.ListN.{getD}
-use Rattle.maps.specs.Sums.{sumTo, keep}
+use Rattle.maps.specs.Sums.{sumTo, when}
 use Rattle.maps.specs.Bins.{offset, votes, place}
 
 -- the n bins of l hold the g places d 0, .., d (g - 1), which count from `low`: whatever is asked of a place, as many votes pass
@@ -17,4 +17,4 @@ pub record Binned (d : ℕ → ℕ) (g : ℕ) (low : ℤ) (l : List ℤ) (n : �
   pub occupied : (j : ℕ) → j < n → 0 < votes l j
   pub ascend : (i j : ℕ) → i < j → j < n → place l low i < place l low j
   pub spanned : (most : ℕ) → ((t : ℕ) → t < g → d t ≤ most) → (j : ℕ) → j < n → place l low j ≤ most
-  pub held : (p : ℕ → Bool) → sumTo (λ j. keep (p (place l low j)) (votes l j)) n ≡ sumTo (λ t. keep (p (d t)) 1) g
+  pub held : (p : ℕ → Bool) → sumTo (λ j. when (p (place l low j)) (votes l j)) n ≡ sumTo (λ t. when (p (d t)) 1) g

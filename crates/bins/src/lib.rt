@@ -3,7 +3,7 @@ ghost use mathlib.Core.Path.{_≡_};
 ghost use Prim.Native.Nat.{ℕ, _+_, _*_, _≤_, _<_, _^_, max};
 ghost use lib.IntN.{pos, negℤ, _+ℤ_};
 ghost use lib.ListN.{length, getD, set, drop};
-ghost use Rattle.maps.specs.Sums.{sumTo, keep};
+ghost use Rattle.maps.specs.Sums.{sumTo, when};
 ghost use Rattle.maps.specs.Words.{SameOutside};
 ghost use Rattle.bins.specs.Votes.{packed, leadOf, places, positions, Run, Group};
 ghost use Rattle.bins.specs.Binned.{Binned};
@@ -89,7 +89,7 @@ pub fn count_sorted(s: &mut [i64], a: usize, g: usize, at: usize, top: u64) -> u
 // 1 where y is within tol of x, else 0.
 fn near_to(tol: u64, x: u64, y: u64) -> u8
     requires { ⌜ (tol ≤ 65535) × (x ≤ 2 ^ 40) × (y ≤ 2 ^ 40) ⌝ }
-    ensures { λ r. ⌜ r ≡ keep (nearPlace tol x y) 1 ⌝ }
+    ensures { λ r. ⌜ r ≡ when (nearPlace tol x y) 1 ⌝ }
 {
     if x <= y + tol {
         if y <= x + tol {

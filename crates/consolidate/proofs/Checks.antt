@@ -12,11 +12,12 @@ use lib.ListN.{length}
 use borrow.Author.Tests.{leb-true, ltb-true, le-leb, lt-leb, lt-ltb}
 use Rattle.maps.specs.Bins.{offset, votes}
 use Rattle.maps.specs.Sums.{sumTo}
-use Rattle.maps.specs.Lists.{every}
+use Rattle.lists.specs.Every.{every}
+use Rattle.lists.proofs.Tests.{and-left, and-right, or-else, or-right}
+use Rattle.lists.proofs.Every.{every-at, every-make}
 use Rattle.consolidate.specs.Box.{count}
 use Rattle.consolidate.specs.Limits.{Bins, binOk, binsOk, Span, endsOk, inSpan, spanOk}
-use Rattle.maps.proofs.Tests.{and-left, and-right, or-left, or-right, holds, is-true}
-use Rattle.maps.proofs.Lists.{every-at, every-make}
+use Rattle.maps.proofs.Tests.{holds, is-true}
 
 -- ---- the mode's bins
 
@@ -79,7 +80,7 @@ span-of l n tol low high e =
           ltb-true 0 (votes l i) (and-left a (b && (c && d)) e),
           holds (and-left b (c && d) e₁),
           holds (and-left c d e₂),
-          (λ u. holds (or-left (leb n (i + 1)) (ltZ (offset l i) (offset l (i + 1))) (lt-leb n (i + 1) u) (and-right c d e₂))),
+          (λ u. holds (or-else (leb n (i + 1)) (ltZ (offset l i) (offset l (i + 1))) (and-right c d e₂) (lt-leb n (i + 1) u))),
         )
 
 pub span-ok : (l : List ℤ) (n tol : ℕ) (low high : ℤ) → Span l n tol low high → spanOk l n tol low high ≡ true

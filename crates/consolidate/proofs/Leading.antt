@@ -11,7 +11,7 @@ use Rattle.consolidate.specs.Runs.{firstGreatest, runEnd, Leads}
 use Rattle.consolidate.specs.Sweeping.{Best, betterOf}
 use Rattle.consolidate.specs.declared.Run.{Run}
 use Rattle.maps.proofs.Sums.{greatest-over, greatest-under, first-is}
-use Rattle.maps.proofs.Tests.{and-left, and-right}
+use Rattle.lists.proofs.Tests.{and-left, and-right}
 
 loop : (x : ℕ) → x < x → ⊥
 loop x h = omega arith

@@ -9,7 +9,7 @@ use lib.IntN.{ℤ, pos, _+ℤ_}
 use lib.Dec.{leb}
 use borrow.Author.Tests.{le-leb, lt-leb, le-ltb, lt-ltb}
 use Rattle.maps.specs.Bins.{offset, votes, place}
-use Rattle.maps.specs.Sums.{sumTo, keep}
+use Rattle.maps.specs.Sums.{sumTo, when}
 use Rattle.consolidate.specs.Modes.{mode, modeOr}
 use Rattle.consolidate.specs.Box.{within, modeNear, peakOver, between, modeBetween}
 use Rattle.consolidate.specs.Windows.{withinℕ, windowSum, Passed, Covers}
@@ -93,8 +93,8 @@ pub answer : (l : List ℤ) (low : ℤ) (n tol width : ℕ) (st : State) (a asum
     ≡ peakOver (windowSum (place l low) (votes l) n tol) (modeNear l n tol) low width
 unfolding peakOver modeNear
 answer l low n tol width st a asum e esum b any B total A E =
-    let near : mode (λ i. keep (within tol (low +ℤ pos (st .run .start)) (low +ℤ pos (st .run .end - 1)) (offset l i)) (votes l i)) (offset l) n
-    ≡ mode (λ i. keep (between a e i) (votes l i)) (offset l) n
-    = mode-cong (λ i. keep (within tol (low +ℤ pos (st .run .start)) (low +ℤ pos (st .run .end - 1)) (offset l i)) (votes l i)) (λ i. keep (between a e i) (votes l i)) (offset l) n
-    (λ i h. ap (λ (t : Bool). keep t (votes l i)) (near-is l low n b tol (st .run .start) (st .run .end - 1) i h ∙ reached (place l low) (votes l) n tol (st .run .start) (st .run .end) a asum e esum i (B .some any) h A E)) in
+    let near : mode (λ i. when (within tol (low +ℤ pos (st .run .start)) (low +ℤ pos (st .run .end - 1)) (offset l i)) (votes l i)) (offset l) n
+    ≡ mode (λ i. when (between a e i) (votes l i)) (offset l) n
+    = mode-cong (λ i. when (within tol (low +ℤ pos (st .run .start)) (low +ℤ pos (st .run .end - 1)) (offset l i)) (votes l i)) (λ i. when (between a e i) (votes l i)) (offset l) n
+    (λ i h. ap (λ (t : Bool). when t (votes l i)) (near-is l low n b tol (st .run .start) (st .run .end - 1) i h ∙ reached (place l low) (votes l) n tol (st .run .start) (st .run .end) a asum e esum i (B .some any) h A E)) in
     rw (leads-greatest (B .leads), leads-first (B .leads), best-end any B, ← total, near) refl

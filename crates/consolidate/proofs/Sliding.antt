@@ -7,7 +7,7 @@ use native.Mathlib.Omega.{arith}
 use native.Mathlib.Decide.{decLt}
 use lib.Dec.{ltb}
 use borrow.Author.Tests.{lt-ltb, le-ltb, le-leb, lt-leb}
-use Rattle.maps.specs.Sums.{sumTo, keep}
+use Rattle.maps.specs.Sums.{sumTo, when}
 use Rattle.consolidate.specs.Windows.{withinℕ, windowSum, Passed, Slides, Covers}
 use Rattle.consolidate.specs.Sweeping.{Next}
 use Rattle.consolidate.specs.declared.Window.{Window}
@@ -111,11 +111,11 @@ split : (d v : ℕ → ℕ) (n tol x e l : ℕ) → l ≤ e → e ≤ n
 unfolding windowSum
 split d v n tol x e l le en inBy outBy later stay =
     rw (← (sum-mask v l n (omega arith)), ← (sum-mask v e n en))
-    (sum-add (λ i. keep (withinℕ tol x x (d i)) (v i)) (λ i. keep (ltb i l) (v i)) n
-    ∙ sum-cong (λ i. keep (withinℕ tol x x (d i)) (v i) + keep (ltb i l) (v i)) (λ i. keep (ltb i e) (v i)) n
+    (sum-add (λ i. when (withinℕ tol x x (d i)) (v i)) (λ i. when (ltb i l) (v i)) n
+    ∙ sum-cong (λ i. when (withinℕ tol x x (d i)) (v i) + when (ltb i l) (v i)) (λ i. when (ltb i e) (v i)) n
     (λ i h. at i h (decLt i l) (decLt i e)))
   where
-    at : (i : ℕ) → i < n → Dec (i < l) → Dec (i < e) → keep (withinℕ tol x x (d i)) (v i) + keep (ltb i l) (v i) ≡ keep (ltb i e) (v i)
+    at : (i : ℕ) → i < n → Dec (i < l) → Dec (i < e) → when (withinℕ tol x x (d i)) (v i) + when (ltb i l) (v i) ≡ when (ltb i e) (v i)
     at i h (yes p) (yes q) = rw (lt-leb x (d i + tol) (outBy i p), lt-ltb i l p, lt-ltb i e q) (omega arith)
     at i h (yes p) (no q) = absurd (q (omega arith))
     at i h (no p) (yes q) =

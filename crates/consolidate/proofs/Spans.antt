@@ -12,7 +12,7 @@ use borrow.Author.Tests.{le-leb, lt-leb, lt-ltb, le-ltb, leb-false}
 use mir.Syntax.{w64}
 use mir.Val.{Fits, SFits}
 use Rattle.maps.specs.Bins.{offset, votes, place}
-use Rattle.maps.specs.Sums.{keep}
+use Rattle.maps.specs.Sums.{when}
 use Rattle.consolidate.specs.Box.{within, window}
 use Rattle.consolidate.specs.Limits.{Bins, Span}
 use Rattle.consolidate.specs.Windows.{withinℕ, windowSum}
@@ -95,8 +95,8 @@ module _ (l : List ℤ) (low : ℤ) (n : ℕ) (b : Placed l low n) where
   pub window-is : (tol : ℕ) → (λ (x : ℕ). window l n tol (low +ℤ pos x)) ≡ windowSum (place l low) (votes l) n tol
   unfolding window windowSum
   window-is tol =
-      fun-ext (λ x. sum-cong (λ i. keep (within tol (low +ℤ pos x) (low +ℤ pos x) (offset l i)) (votes l i)) (λ i. keep (withinℕ tol x x (place l low i)) (votes l i)) n
-      (λ i h. ap (λ (t : Bool). keep t (votes l i)) (near-is tol x x i h)))
+      fun-ext (λ x. sum-cong (λ i. when (within tol (low +ℤ pos x) (low +ℤ pos x) (offset l i)) (votes l i)) (λ i. when (withinℕ tol x x (place l low i)) (votes l i)) n
+      (λ i h. ap (λ (t : Bool). when t (votes l i)) (near-is tol x x i h)))
 
 module _ (l : List ℤ) (n tol : ℕ) (low high : ℤ) (S : Span l n tol low high) where
   above : (i : ℕ) → i < n → T (nonNeg (offset l i -ℤ low))

@@ -6,7 +6,7 @@ use native.Mathlib.Omega.{arith}
 use lib.IntN.{ℤ, pos, natAbs, _+ℤ_, +ℤ-idl, +ℤ-idr}
 use lib.Dec.{ltb, eqb}
 use borrow.Author.Tests.{ltb-true, ltb-false, lt-ltb, le-ltb, eqb-true, eqb-false, eq-eqb, ne-eqb}
-use Rattle.maps.specs.Sums.{sumTo, sumToℤ, greatest, keep, keepℤ}
+use Rattle.maps.specs.Sums.{sumTo, sumToℤ, greatest, when, whenℤ}
 use Rattle.consolidate.specs.Modes.{nearestMean, mode}
 use Rattle.consolidate.specs.Tallies.{tallyOf}
 use Rattle.consolidate.specs.declared.Tally.{Tally}
@@ -20,8 +20,8 @@ counts m best y = ltb 0 (m y) && eqb (m y) best
 -- the tally of the offsets z 0, .., z (x - 1) with the counts m 0, .., m (x - 1)
 pub record Tallied (m : ℕ → ℕ) (z : ℕ → ℤ) (x : ℕ) (t : Tally) : Type 0 where
   pub top : t .best ≡ greatest m x
-  pub ties : t .count ≡ sumTo (λ y. keep (counts m (t .best) y) 1) x
-  pub total : t .sum ≡ sumToℤ (λ y. keepℤ (counts m (t .best) y) (z y)) x
+  pub ties : t .count ≡ sumTo (λ y. when (counts m (t .best) y) 1) x
+  pub total : t .sum ≡ sumToℤ (λ y. whenℤ (counts m (t .best) y) (z y)) x
   pub some : 0 < t .best → 0 < t .count
 
 module _ (m : ℕ → ℕ) (z : ℕ → ℤ) where
@@ -38,8 +38,8 @@ module _ (m : ℕ → ℕ) (z : ℕ → ℤ) where
   tally-gap x x' t h off T =
       record {
         top = T .top ∙ sym (greatest-zeros m x x' h off);
-        ties = T .ties ∙ sym (sum-zeros (λ y. keep (counts m (t .best) y) 1) x x' h (λ y a b. ap (λ (u : Bool). keep u 1) (nothing (t .best) y (off y a b))));
-        total = T .total ∙ sym (sumℤ-zeros (λ y. keepℤ (counts m (t .best) y) (z y)) x x' h (λ y a b. ap (λ (u : Bool). keepℤ u (z y)) (nothing (t .best) y (off y a b))));
+        ties = T .ties ∙ sym (sum-zeros (λ y. when (counts m (t .best) y) 1) x x' h (λ y a b. ap (λ (u : Bool). when u 1) (nothing (t .best) y (off y a b))));
+        total = T .total ∙ sym (sumℤ-zeros (λ y. whenℤ (counts m (t .best) y) (z y)) x x' h (λ y a b. ap (λ (u : Bool). whenℤ u (z y)) (nothing (t .best) y (off y a b))));
         some = T .some;
       }
 
@@ -51,10 +51,10 @@ module _ (m : ℕ → ℕ) (z : ℕ → ℤ) where
   tally-more x t T = go (eqb (m x) 0) refl (ltb (t .best) (m x)) refl (eqb (m x) (t .best)) refl
     where
       cs : ℕ → ℕ → ℕ
-      cs b y = keep (counts m b y) 1
+      cs b y = when (counts m b y) 1
 
       os : ℕ → ℕ → ℤ
-      os b y = keepℤ (counts m b y) (z y)
+      os b y = whenℤ (counts m b y) (z y)
 
       tops : t .best ≡ greatest m x
       tops = T .top
@@ -68,8 +68,8 @@ module _ (m : ℕ → ℕ) (z : ℕ → ℤ) where
           let before : (y : ℕ) → y < x → counts m (m x) y ≡ false = λ y u. none-at x (m x) y (omega (arith, tops)) u in
           record {
             top = omega (arith, greatest-next m x, tops, up);
-            ties = omega (arith, sum-next (cs (m x)) x, sum-none (cs (m x)) x (λ y u. ap (λ (w : Bool). keep w 1) (before y u)), ap (λ (w : Bool). keep w 1) self);
-            total = sym (sumℤ-next (os (m x)) x ∙ ap₂ _+ℤ_ (sumℤ-none (os (m x)) x (λ y u. ap (λ (w : Bool). keepℤ w (z y)) (before y u))) (ap (λ (w : Bool). keepℤ w (z x)) self) ∙ +ℤ-idl (z x));
+            ties = omega (arith, sum-next (cs (m x)) x, sum-none (cs (m x)) x (λ y u. ap (λ (w : Bool). when w 1) (before y u)), ap (λ (w : Bool). when w 1) self);
+            total = sym (sumℤ-next (os (m x)) x ∙ ap₂ _+ℤ_ (sumℤ-none (os (m x)) x (λ y u. ap (λ (w : Bool). whenℤ w (z y)) (before y u))) (ap (λ (w : Bool). whenℤ w (z x)) self) ∙ +ℤ-idl (z x));
             some = λ h. omega arith;
           }
       go false q₀ false q true q₂ =
@@ -78,8 +78,8 @@ module _ (m : ℕ → ℕ) (z : ℕ → ℤ) where
           let self : counts m (t .best) x ≡ true = rw (lt-ltb 0 (m x) (omega arith), q₂) refl in
           record {
             top = omega (arith, greatest-next m x, tops);
-            ties = omega (arith, sum-next (cs (t .best)) x, T .ties, ap (λ (w : Bool). keep w 1) self);
-            total = sym (sumℤ-next (os (t .best)) x ∙ ap₂ _+ℤ_ (sym (T .total)) (ap (λ (w : Bool). keepℤ w (z x)) self));
+            ties = omega (arith, sum-next (cs (t .best)) x, T .ties, ap (λ (w : Bool). when w 1) self);
+            total = sym (sumℤ-next (os (t .best)) x ∙ ap₂ _+ℤ_ (sym (T .total)) (ap (λ (w : Bool). whenℤ w (z x)) self));
             some = λ h. omega arith;
           }
       go false q₀ false q false q₂ =
@@ -87,16 +87,16 @@ module _ (m : ℕ → ℕ) (z : ℕ → ℤ) where
           let self : counts m (t .best) x ≡ false = rw q₂ (and-false (ltb 0 (m x))) in
           record {
             top = omega (arith, greatest-next m x, tops);
-            ties = omega (arith, sum-next (cs (t .best)) x, T .ties, ap (λ (w : Bool). keep w 1) self);
-            total = sym (sumℤ-next (os (t .best)) x ∙ ap₂ _+ℤ_ (sym (T .total)) (ap (λ (w : Bool). keepℤ w (z x)) self) ∙ +ℤ-idr (t .sum));
+            ties = omega (arith, sum-next (cs (t .best)) x, T .ties, ap (λ (w : Bool). when w 1) self);
+            total = sym (sumℤ-next (os (t .best)) x ∙ ap₂ _+ℤ_ (sym (T .total)) (ap (λ (w : Bool). whenℤ w (z x)) self) ∙ +ℤ-idr (t .sum));
             some = T .some;
           }
 
   -- x offsets of at most H each
   pub tally-small : (x H : ℕ) (t : Tally) → ((y : ℕ) → y < x → natAbs (z y) ≤ H) → Tallied m z x t → (t .count ≤ x) × (natAbs (t .sum) ≤ x * H)
   tally-small x H t near T = (
-    omega (arith, T .ties, sum-under (λ y. keep (counts m (t .best) y) 1) x 1 (λ y u. keep-le (counts m (t .best) y) 1)),
-    subst (λ (w : ℤ). natAbs w ≤ x * H) (sym (T .total)) (sumℤ-under (λ y. keepℤ (counts m (t .best) y) (z y)) x H (λ y u. keepℤ-abs (counts m (t .best) y) (z y) H (near y u))),
+    omega (arith, T .ties, sum-under (λ y. when (counts m (t .best) y) 1) x 1 (λ y u. keep-le (counts m (t .best) y) 1)),
+    subst (λ (w : ℤ). natAbs w ≤ x * H) (sym (T .total)) (sumℤ-under (λ y. whenℤ (counts m (t .best) y) (z y)) x H (λ y u. keepℤ-abs (counts m (t .best) y) (z y) H (near y u))),
   )
 
   -- of a greatest count above 0 the offsets with it are tallied, and no others
@@ -108,11 +108,11 @@ module _ (m : ℕ → ℕ) (z : ℕ → ℤ) where
       go false e = and-false (ltb 0 (m y))
 
   ties-are : (x : ℕ) (t : Tally) → 0 < t .best → Tallied m z x t
-      → (sumTo (λ y. keep (eqb (m y) (greatest m x)) 1) x ≡ t .count) × (sumToℤ (λ y. keepℤ (eqb (m y) (greatest m x)) (z y)) x ≡ t .sum)
+      → (sumTo (λ y. when (eqb (m y) (greatest m x)) 1) x ≡ t .count) × (sumToℤ (λ y. whenℤ (eqb (m y) (greatest m x)) (z y)) x ≡ t .sum)
   ties-are x t h T =
       let e : (y : ℕ) → eqb (m y) (greatest m x) ≡ counts m (t .best) y = λ y. ap (eqb (m y)) (sym (T .top)) ∙ sym (counts-is (t .best) y h) in (
-        sum-cong (λ y. keep (eqb (m y) (greatest m x)) 1) (λ y. keep (counts m (t .best) y) 1) x (λ y u. ap (λ (w : Bool). keep w 1) (e y)) ∙ sym (T .ties),
-        sumℤ-cong (λ y. keepℤ (eqb (m y) (greatest m x)) (z y)) (λ y. keepℤ (counts m (t .best) y) (z y)) x (λ y u. ap (λ (w : Bool). keepℤ w (z y)) (e y)) ∙ sym (T .total),
+        sum-cong (λ y. when (eqb (m y) (greatest m x)) 1) (λ y. when (counts m (t .best) y) 1) x (λ y u. ap (λ (w : Bool). when w 1) (e y)) ∙ sym (T .ties),
+        sumℤ-cong (λ y. whenℤ (eqb (m y) (greatest m x)) (z y)) (λ y. whenℤ (counts m (t .best) y) (z y)) x (λ y u. ap (λ (w : Bool). whenℤ w (z y)) (e y)) ∙ sym (T .total),
       )
 
 -- ---- the mode, from the tally
@@ -133,6 +133,6 @@ pub mode-cong : (m m′ : ℕ → ℕ) (z : ℕ → ℤ) (k : ℕ) → ((x : ℕ
 unfolding mode
 mode-cong m m′ z k h =
     let g : greatest m k ≡ greatest m′ k = greatest-cong m m′ k h in
-    let c = sum-cong (λ x. keep (eqb (m x) (greatest m′ k)) 1) (λ x. keep (eqb (m′ x) (greatest m′ k)) 1) k (λ x u. rw (h x u) refl) in
-    let s = sumℤ-cong (λ x. keepℤ (eqb (m x) (greatest m′ k)) (z x)) (λ x. keepℤ (eqb (m′ x) (greatest m′ k)) (z x)) k (λ x u. rw (h x u) refl) in
+    let c = sum-cong (λ x. when (eqb (m x) (greatest m′ k)) 1) (λ x. when (eqb (m′ x) (greatest m′ k)) 1) k (λ x u. rw (h x u) refl) in
+    let s = sumℤ-cong (λ x. whenℤ (eqb (m x) (greatest m′ k)) (z x)) (λ x. whenℤ (eqb (m′ x) (greatest m′ k)) (z x)) k (λ x u. rw (h x u) refl) in
     rw (g, c, s) refl

@@ -7,7 +7,7 @@ use lib.Signed.{leZ}
 use lib.Dec.{leb, ltb, eqb}
 use lib.ListN.{getD}
 use Rattle.maps.specs.Bins.{offset, votes}
-use Rattle.maps.specs.Sums.{sumTo, greatest, keep}
+use Rattle.maps.specs.Sums.{sumTo, greatest, when}
 use Rattle.consolidate.specs.Runs.{firstGreatest, runEnd}
 use Rattle.consolidate.specs.Modes.{mode, modeOr}
 use Rattle.consolidate.specs.declared.Mode.{Mode}
@@ -23,7 +23,7 @@ between from to i = leb from i && ltb i to
 
 -- the mode of those bins
 abbrev pub modeBetween : List ℤ → ℕ → ℕ → ℕ → Mode
-modeBetween l n from to = mode (λ i. keep (between from to i) (votes l i)) (offset l) n
+modeBetween l n from to = mode (λ i. when (between from to i) (votes l i)) (offset l) n
 
 -- the offset d is within ± tol of a centre from a to b
 abbrev pub within : ℕ → ℤ → ℤ → ℤ → Bool
@@ -31,11 +31,11 @@ within tol a b d = leZ a (d +ℤ pos tol) && leZ d (b +ℤ pos tol)
 
 -- of n bins, "the sum of counts within ± tolerance" of the centre c
 unfoldable pub window : List ℤ → ℕ → ℕ → ℤ → ℕ
-window l n tol c = sumTo (λ i. keep (within tol c c (offset l i)) (votes l i)) n
+window l n tol c = sumTo (λ i. when (within tol c c (offset l i)) (votes l i)) n
 
 -- the mode "among bins within tolerance of the run" from a to b
 unfoldable pub modeNear : List ℤ → ℕ → ℕ → ℤ → ℤ → Mode
-modeNear l n tol a b = mode (λ i. keep (within tol a b (offset l i)) (votes l i)) (offset l) n
+modeNear l n tol a b = mode (λ i. when (within tol a b (offset l i)) (votes l i)) (offset l) n
 
 -- "greatest sum, whole-number midpoint (down) of its first run, mode, total over all centres",
 -- the centres being low, low + 1, .., low + k - 1 with the sums w 0, .., w (k - 1), and `near a b` the mode near the run from a to b

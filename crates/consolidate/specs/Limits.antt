@@ -9,7 +9,7 @@ use lib.Dec.{T, leb, ltb}
 use lib.ListN.{length}
 use Rattle.maps.specs.Bins.{offset, votes}
 use Rattle.maps.specs.Sums.{sumTo}
-use Rattle.maps.specs.Lists.{every}
+use Rattle.lists.specs.Every.{every}
 use Rattle.consolidate.specs.Modes.{mode}
 use Rattle.consolidate.specs.Box.{count, boxPeak}
 use Rattle.consolidate.specs.declared.CheckedMode.{CheckedMode}

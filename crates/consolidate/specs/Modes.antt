@@ -3,7 +3,7 @@ use Prim.Native.Nat.{ℕ, suc, _+_, _-_, _*_, _/_}
 use mathlib.Core.Bool.{Bool, cond}
 use lib.IntN.{ℤ, pos, negsuc, negℤ, _-ℤ_, _*ℤ_}
 use lib.Dec.{eqb}
-use Rattle.maps.specs.Sums.{sumTo, sumToℤ, greatest, keep, keepℤ}
+use Rattle.maps.specs.Sums.{sumTo, sumToℤ, greatest, when, whenℤ}
 use Rattle.consolidate.specs.declared.Mode.{Mode}
 use Rattle.consolidate.specs.declared.Mode.the-variants.{At, Nothing}
 
@@ -25,7 +25,7 @@ tied m k x = eqb (m x) (greatest m k)
 unfoldable pub mode : (ℕ → ℕ) → (ℕ → ℤ) → ℕ → Mode
 mode m z k =
     cond (eqb (greatest m k) 0) Nothing
-    (At (nearestMean (sumToℤ (λ x. keepℤ (tied m k x) (z x)) k) (sumTo (λ x. keep (tied m k x) 1) k)))
+    (At (nearestMean (sumToℤ (λ x. whenℤ (tied m k x) (z x)) k) (sumTo (λ x. when (tied m k x) 1) k)))
 
 -- the mode, and another offset if there is none
 abbrev pub modeOr : ℤ → Mode → ℤ

@@ -4,7 +4,7 @@ use Prim.Native.Nat.{ℕ, _+_, _≤_, _<_}
 use mathlib.Core.Path.{_≡_}
 use mathlib.Core.Bool.{Bool, _&&_}
 use lib.Dec.{leb}
-use Rattle.maps.specs.Sums.{sumTo, keep}
+use Rattle.maps.specs.Sums.{sumTo, when}
 use Rattle.consolidate.specs.declared.Window.{Window}
 
 -- the place p is within tol of a place from a to b
@@ -13,7 +13,7 @@ withinℕ tol a b p = leb a (p + tol) && leb p (b + tol)
 
 -- the sum of the counts within tol of x
 unfoldable pub windowSum : (ℕ → ℕ) → (ℕ → ℕ) → ℕ → ℕ → ℕ → ℕ
-windowSum d v n tol x = sumTo (λ i. keep (withinℕ tol x x (d i)) (v i)) n
+windowSum d v n tol x = sumTo (λ i. when (withinℕ tol x x (d i)) (v i)) n
 
 -- from `from` on, the bins before `to` lie below `below` and the others don't; sum is the sum of their counts
 pub record Passed (d v : ℕ → ℕ) (n from below to sum : ℕ) : Type 0 where

@@ -9,7 +9,7 @@ ghost use lib.Signed.{nonNeg, leZ, ltZ};
 ghost use lib.Dec.{leb};
 ghost use Rattle.maps.specs.Bins.{offset, votes, place};
 ghost use Rattle.maps.specs.Sums.{sumTo};
-ghost use Rattle.maps.specs.Lists.{every};
+ghost use Rattle.lists.specs.Every.{every};
 ghost use Rattle.consolidate.specs.Modes.{ceil, nearestMean, modeOr};
 ghost use Rattle.consolidate.specs.Box.{modeBetween, modeNear, peakOver, boxPeak};
 ghost use Rattle.consolidate.specs.Limits.{Bins, binOk, binsOk, Span, endsOk, inSpan, spanOk, checkedMode, checkedPeak};

@@ -1,10 +1,11 @@
 -- The fixed examples as one table with one test, `right`. Floats are given by their bit patterns. Definitions only. Assumes nothing.
 use mathlib.Core.Bool.{Bool, true, false, _&&_, Bool·beq}
-use mathlib.Core.List.{List, [], _∷_}
+use mathlib.Core.List.{List, [], _∷_, _++_}
+use mathlib.Core.Option.{Option, none, some}
 use Prim.Native.Nat.{ℕ, _/_}
 use lib.IntN.{ℤ, pos, negsuc}
 use lib.Dec.{eqb}
-use lib.ListN.{length}
+use lib.ListN.{length, replicate}
 use lib.Ieee.{Float, binary32, binary64, ofBits, ofInt, toBits}
 use Rattle.maps.specs.Bins.{offset, votes}
 use Rattle.floats.specs.Rounding.{roundToI64}
@@ -15,6 +16,9 @@ use Rattle.consolidate.specs.Modes.{mode}
 use Rattle.consolidate.specs.Box.{boxPeak}
 use Rattle.hough.specs.Hough as Hough
 use Rattle.hough.specs.Hough.{houghPeak, peakOffset}
+use Rattle.model.specs.Calls.{Answer, built, stored, removed, count, best, nothing, refused}
+use Rattle.model.specs.Words.{Words}
+use Rattle.model.specs.Run.{runInsert, runRemove}
 use Rattle.matching.specs.Offsets.{millis}
 use Rattle.matching.specs.Rates.{ratesAgree}
 use Rattle.matching.specs.Scores.{wangProminence, scoreOf}
@@ -35,6 +39,8 @@ pub data Example : Type 0 where
   modeOf : List ℤ → ℤ → Example
   -- bins (scale, offset, count), tolerance; then peak, the index of its bin, frames, prominence
   hough : List ℤ → ℕ → ℕ → ℕ → ℤ → ℕ → Example
+  -- calls on a store that begins zeroed, each an insert (none) or the removal of an id; the ids that the inserts get
+  ids : List (Option ℕ) → List ℕ → Example
   -- Wang prominence of a peak, a total and a width
   prominence : ℕ → ℕ → ℕ → ℕ → Example
   -- the score of so many out of so many query hashes
@@ -66,6 +72,31 @@ binsIn words bins = length bins / words
 abbrev samePeak : Peak → ℕ → ℤ → ℤ → ℕ → Bool
 samePeak p peak centre mode total = eqb (p .votes) peak && (sameℤ (p .centre) centre && (sameℤ (p .mode) mode && eqb (p .total) total))
 
+abbrev sameIds : List ℕ → List ℕ → Bool
+sameIds [] [] = true
+sameIds [] (y ∷ ys) = false
+sameIds (x ∷ xs) [] = false
+sameIds (x ∷ xs) (y ∷ ys) = eqb x y && sameIds xs ys
+
+-- R 4, P 1, K 1
+abbrev zeroed : Words
+zeroed = record { references = replicate 20 0; postings = replicate 3 0; stopped = replicate 1 0 }
+
+abbrev storedIds : Answer → List ℕ
+storedIds built = []
+storedIds (stored id) = id ∷ []
+storedIds (removed b) = []
+storedIds (count n) = []
+storedIds (best id r) = []
+storedIds nothing = []
+storedIds (refused n) = []
+
+-- Wang's store; each recording is one without hashes
+unfoldable pub idsGiven : Words → List (Option ℕ) → List ℕ
+idsGiven m [] = []
+idsGiven m (none ∷ calls) = let o = runInsert 3 m 100 0 [] in storedIds (o .0) ++ idsGiven (o .1) calls
+idsGiven m (some id ∷ calls) = idsGiven (runRemove 3 m id .1) calls
+
 unfoldable pub right : Example → Bool
 right (rates a b agree) = Bool·beq (ratesAgree (single a) (single b)) agree
 right (inMillis frames rate ms) = sameℤ (millis frames (single rate)) ms
@@ -77,6 +108,7 @@ right (hough bins tol peak at frames word) =
     let p = houghPeak bins (binsIn 3 bins) tol in
     (eqb (p .votes) peak && eqb (p .at) at)
     && (sameℤ (peakOffset bins (binsIn 3 bins) tol (p .at)) frames && is32 (Hough.prominence bins (binsIn 3 bins) tol (p .votes) (p .at)) word)
+right (ids calls given) = sameIds (idsGiven zeroed calls) given
 right (prominence peak total width word) = is32 (wangProminence peak total width) word
 right (score n hashes word) = is32 (scoreOf n hashes) word
 right (scale min max bins bin word) = is32 (timeScale (binCentre (single min) (perBin (single min) (single max) bins) bin)) word
@@ -99,6 +131,8 @@ table =
     -- document 01: 1000 and 999 agree; 62.5 and 62.4 don't
     ∷ rates 0x447A_0000 0x4479_C000 true
     ∷ rates 0x427A_0000 0x4279_999A false
+    -- document 01: ids 0, 1, 2; remove 0, then 2; inserts get 2, 0, 3
+    ∷ ids (none ∷ none ∷ none ∷ some 0 ∷ some 2 ∷ none ∷ none ∷ none ∷ []) (0 ∷ 1 ∷ 2 ∷ 2 ∷ 0 ∷ 3 ∷ [])
     -- document 01: 1 frame at rate 2000 is 1 ms; −1 frame is −1 ms
     ∷ inMillis (pos 1) 0x44FA_0000 (pos 1)
     ∷ inMillis (negsuc 0) 0x44FA_0000 (negsuc 0)

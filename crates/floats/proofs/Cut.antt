@@ -11,7 +11,7 @@ use lib.Bits.{bitAnd, and-mask}
 use lib.Count.{leadingZeros, leading-length}
 use lib.Ieee.{nearest}
 use borrow.Author.Tests.{ltb-true, ltb-false}
-use Rattle.floats.proofs.Order.{test}
+use Rattle.lists.proofs.Tests.{test}
 
 -- ---- the three ways of `nearest`, by the two numbers that `compare` compares
 

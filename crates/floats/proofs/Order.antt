@@ -1,6 +1,6 @@
 -- The order of floats. `<` is asymmetric; what is not below is transitive past a number; of two numbers one is at most the other. Assumes nothing.
-use mathlib.Core.Path.{_≡_, refl, sym, _∙_}
-use mathlib.Core.Bool.{Bool, true, false, not, _&&_, _||_, true≢false}
+use mathlib.Core.Path.{_≡_, refl}
+use mathlib.Core.Bool.{Bool, true, false, not, _&&_, _||_}
 use Prim.Native.Nat.{ℕ, zero, suc, _+_, _*_, _≤_, _<_}
 use native.Mathlib.Nat.{mul-le-mul-right, le-of-mul-le-mul-right}
 use native.Mathlib.Omega.{arith}
@@ -8,14 +8,7 @@ use lib.Dec.{T, ltb, eqb}
 use lib.Ieee.{Float, nan, inf, fin, up, down, below, level, lt, le, isNan}
 use lib.Ieee.Fits.{down-pos}
 use borrow.Author.Tests.{ltb-true, ltb-false, lt-ltb, le-ltb, eq-eqb}
-
--- a test, with its answer known in each case
-pub test : {C : Type 0} (b : Bool) → (b ≡ true → C) → (b ≡ false → C) → C
-test true f g = f refl
-test false f g = g refl
-
-pub not-both : {b : Bool} → b ≡ true → b ≡ false → ⊥
-not-both {b} h k = let z : true ≡ false = sym h ∙ k in absurd (true≢false z)
+use Rattle.lists.proofs.Tests.{test, not-both}
 
 -- fractions a/a', b/b', c/c'
 cross : (a b c a' b' c' : ℕ) → 0 < b' → a * b' ≤ b * a' → b * c' ≤ c * b' → a * c' ≤ c * a'

@@ -11,9 +11,10 @@ use lib.Dec.{T, leb}
 use lib.ListN.{length}
 use borrow.Author.Tests.{leb-true, le-leb, lt-leb}
 use Rattle.maps.specs.Sums.{sumTo}
-use Rattle.maps.specs.Lists.{every}
-use Rattle.maps.proofs.Tests.{and-left, and-right, or-left, or-right, holds, is-true}
-use Rattle.maps.proofs.Lists.{every-at, every-make}
+use Rattle.lists.specs.Every.{every}
+use Rattle.lists.proofs.Tests.{and-left, and-right, or-else, or-right}
+use Rattle.lists.proofs.Every.{every-at, every-make}
+use Rattle.maps.proofs.Tests.{holds, is-true}
 use Rattle.hough.specs.Hough.{scaleWord, offset, count, scale, votes}
 use Rattle.hough.specs.Limits.{before, Bins, binOk, binsOk}
 
@@ -40,7 +41,7 @@ one l n i e =
       scales = leb-true (scale l i) 4095 (and-right a b e₁);
       close = leb-true (natAbs (offset l i)) (2 ^ 39) (and-left c (d && r) e₂);
       counted = holds (and-left d r e₃);
-      rises = λ u. holds (or-left (leb n (i + 1)) (before l i (i + 1)) (lt-leb n (i + 1) u) (and-right d r e₃));
+      rises = λ u. holds (or-else (leb n (i + 1)) (before l i (i + 1)) (and-right d r e₃) (lt-leb n (i + 1) u));
     }
 
 pub bins-of : (l : List ℤ) (n : ℕ) → binsOk l n ≡ true → Bins l n

@@ -9,7 +9,7 @@ use lib.IntN.{ℤ, pos, negℤ, natAbs, _+ℤ_, _-ℤ_, +ℤ-assoc, +ℤ-comm}
 use lib.Signed.{nonNeg, pos-natAbs}
 use lib.Dec.{T, leb, eqb}
 use borrow.Author.Tests.{lt-leb, le-leb, le-ltb, eq-eqb, ne-eqb}
-use Rattle.maps.specs.Sums.{sumTo, keep}
+use Rattle.maps.specs.Sums.{sumTo, when}
 use Rattle.consolidate.specs.Modes.{nearestMean, modeOr}
 use Rattle.consolidate.specs.Windows.{withinℕ, windowSum, Covers}
 use Rattle.consolidate.specs.declared.Tally.{Tally}
@@ -70,7 +70,7 @@ one-offset true p q tol y h k = go (decLt (p - tol + y) q) (decLt q (p - tol + y
 -- no bin lies just there
 window-none : (d v : ℕ → ℕ) (n c : ℕ) → ((j : ℕ) → j < n → d j ≡ c → ⊥) → windowSum d v n 0 c ≡ 0
 unfolding windowSum
-window-none d v n c h = sum-none (λ j. keep (withinℕ 0 c c (d j)) (v j)) n (λ j u. ap (λ (z : Bool). keep z (v j)) (missed j (decLt (d j) c) (h j u)))
+window-none d v n c h = sum-none (λ j. when (withinℕ 0 c c (d j)) (v j)) n (λ j u. ap (λ (z : Bool). when z (v j)) (missed j (decLt (d j) c) (h j u)))
   where
     missed : (j : ℕ) → Dec (d j < c) → (d j ≡ c → ⊥) → withinℕ 0 c c (d j) ≡ false
     missed j (yes p) g = rw (lt-leb c (d j + 0) (omega arith)) refl
@@ -107,9 +107,9 @@ module _ (l : List ℤ) (n : ℕ) (b : Bins l n) (tol i : ℕ) (T : tol ≤ 6553
       let p = place l i - tol + y in
       let x = (scale l i + 1) * row + (place l i - tol + y) in
       let e : key l i - tol + y ≡ x = omega (arith, f .2) in
-      let g : ℕ → ℕ → ℕ = λ c j. keep (withinℕ 0 c c (key l j)) (votes l j) in
+      let g : ℕ → ℕ → ℕ = λ c j. when (withinℕ 0 c c (key l j)) (votes l j) in
       rw e
-      (sum-cong (λ j. keep (neighbour l tol i j && eqb (gap (frame l tol i y) (offset l j)) 0) (votes l j)) (λ j. g (x - row) j + g x j + g (x + row) j) n
+      (sum-cong (λ j. when (neighbour l tol i j && eqb (gap (frame l tol i y) (offset l j)) 0) (votes l j)) (λ j. g (x - row) j + g x j + g (x + row) j) n
       (λ j u. rw (apart-is l n b i j h u, frame-gap y j k u, one-offset (leb (dist (scale l i) (scale l j)) 1) (place l i) (place l j) tol y (omega (arith, f .2)) k)
       (spread (scale l i) (scale l j) p (place l j) 0 (votes l j) (omega (arith, f .2), omega (arith, f .1)) (inside l n b j u) (omega arith)))
       ∙ sym (sum-add (λ j. g (x - row) j + g x j) (g (x + row)) n)

@@ -10,12 +10,13 @@ use lib.Dec.{T, ltb, eqb, ltb→lt}
 use borrow.Author.Tests.{ltb-true, eqb-true, le-ltb}
 use mir.Syntax.{w64}
 use mir.Val.{Fits, SFits}
-use Rattle.maps.specs.Sums.{sumTo, keep}
+use Rattle.lists.proofs.Tests.{test, or-else, and-left, and-right}
+use Rattle.maps.specs.Sums.{sumTo, when}
 use Rattle.consolidate.specs.Windows.{withinℕ, windowSum}
 use Rattle.maps.proofs.Sums.{sum-cong, sum-add, sum-term, sum-kept}
 use Rattle.maps.proofs.Signed.{fits-abs}
 use Rattle.consolidate.proofs.Signed.{sub-dist}
-use Rattle.maps.proofs.Tests.{test, holds, or-left, and-left, and-right, is-true}
+use Rattle.maps.proofs.Tests.{holds, is-true}
 use Rattle.consolidate.proofs.Sliding.{Ascend, climbs}
 use Rattle.hough.specs.Hough.{scale, offset, votes, dist, gap, neighbour, houghSum}
 use Rattle.hough.specs.Limits.{before, Bins}
@@ -88,7 +89,7 @@ module _ (l : List ℤ) (n : ℕ) (b : Bins l n) where
       same e =
           let q = eqb (scale l i) (scale l (i + 1)) in
           let t = ltZ (offset l i) (offset l (i + 1)) in
-          let r = or-left (ltb (scale l i) (scale l (i + 1))) (q && t) e (is-true (before l i (i + 1)) (b .ascend i h)) in
+          let r = or-else (ltb (scale l i) (scale l (i + 1))) (q && t) (is-true (before l i (i + 1)) (b .ascend i h)) e in
           omega (arith, eqb-true (scale l i) (scale l (i + 1)) (and-left q t r), up (offset l i) (offset l (i + 1)) (2 ^ 40) (omega (arith, b .close i hi)) (omega (arith, b .close (i + 1) h)) (holds (and-right q t r)))
 
   pub keys-up : Ascend (key l) n
@@ -103,8 +104,8 @@ module _ (l : List ℤ) (n : ℕ) (b : Bins l n) where
   unfolding houghSum windowSum key
   hough-is tol i T h =
       let x = key l i in
-      let f : ℕ → ℕ → ℕ = λ c j. keep (withinℕ tol c c (key l j)) (votes l j) in
-      sum-cong (λ j. keep (neighbour l tol i j) (votes l j)) (λ j. f (x - row) j + f x j + f (x + row) j) n
+      let f : ℕ → ℕ → ℕ = λ c j. when (withinℕ tol c c (key l j)) (votes l j) in
+      sum-cong (λ j. when (neighbour l tol i j) (votes l j)) (λ j. f (x - row) j + f x j + f (x + row) j) n
       (λ j u. rw (apart-is i j h u) (spread (scale l i) (scale l j) (place l i) (place l j) tol (votes l j) (inside i h) (inside j u) T))
       ∙ sym (sum-add (λ j. f (x - row) j + f x j) (f (x + row)) n)
       ∙ ap (λ (z : ℕ). z + sumTo (f (x + row)) n) (sym (sum-add (f (x - row)) (f x) n))

@@ -6,7 +6,7 @@ use native.Mathlib.Omega.{arith}
 use native.Mathlib.Decide.{decLt, decLe}
 use lib.Dec.{leb, eqb}
 use borrow.Author.Tests.{le-leb, lt-leb, eq-eqb, ne-eqb}
-use Rattle.maps.specs.Sums.{keep}
+use Rattle.maps.specs.Sums.{when}
 use Rattle.consolidate.specs.Windows.{withinℕ}
 use Rattle.consolidate.proofs.Spans.{leb-same}
 use Rattle.hough.specs.Hough.{dist}
@@ -36,11 +36,11 @@ in-row R S p q tol P Q T = go (decLt R S) (decLt S R)
         (sym (dist-is p q tol))
 
 -- within one row of S is one of three rows, S' being counted from 1
-pub three : (S S' : ℕ) (Q : Bool) (v : ℕ) → keep (leb (dist S S') 1 && Q) v ≡ keep (eqb S (S' + 1) && Q) v + keep (eqb (S + 1) (S' + 1) && Q) v + keep (eqb (S + 2) (S' + 1) && Q) v
+pub three : (S S' : ℕ) (Q : Bool) (v : ℕ) → when (leb (dist S S') 1 && Q) v ≡ when (eqb S (S' + 1) && Q) v + when (eqb (S + 1) (S' + 1) && Q) v + when (eqb (S + 2) (S' + 1) && Q) v
 three S S' false v = rw (and-false (leb (dist S S') 1), and-false (eqb S (S' + 1)), and-false (eqb (S + 1) (S' + 1)), and-false (eqb (S + 2) (S' + 1))) refl
 three S S' true v = go (decLt S' S) (decLt (S' + 1) S) (decLt S S') (decLt (S + 1) S')
   where
-    go : Dec (S' < S) → Dec (S' + 1 < S) → Dec (S < S') → Dec (S + 1 < S') → keep (leb (dist S S') 1 && true) v ≡ keep (eqb S (S' + 1) && true) v + keep (eqb (S + 1) (S' + 1) && true) v + keep (eqb (S + 2) (S' + 1) && true) v
+    go : Dec (S' < S) → Dec (S' + 1 < S) → Dec (S < S') → Dec (S + 1 < S') → when (leb (dist S S') 1 && true) v ≡ when (eqb S (S' + 1) && true) v + when (eqb (S + 1) (S' + 1) && true) v + when (eqb (S + 2) (S' + 1) && true) v
     go a (yes b) c d = rw (lt-leb (dist S S') 1 (omega arith), ne-eqb S (S' + 1) (λ e. omega arith), ne-eqb (S + 1) (S' + 1) (λ e. omega arith), ne-eqb (S + 2) (S' + 1) (λ e. omega arith)) refl
     go (yes a) (no b) c d = rw (le-leb (dist S S') 1 (omega arith), eq-eqb S (S' + 1) (omega arith), ne-eqb (S + 1) (S' + 1) (λ e. omega arith), ne-eqb (S + 2) (S' + 1) (λ e. omega arith)) (omega arith)
     go (no a) (no b) c (yes d) = rw (lt-leb (dist S S') 1 (omega arith), ne-eqb S (S' + 1) (λ e. omega arith), ne-eqb (S + 1) (S' + 1) (λ e. omega arith), ne-eqb (S + 2) (S' + 1) (λ e. omega arith)) refl
@@ -49,10 +49,10 @@ three S S' true v = go (decLt S' S) (decLt (S' + 1) S) (decLt S S') (decLt (S + 
 
 -- the neighbours of the place p in row S + 1, by the three windows
 pub spread : (S S' p q tol v : ℕ) → Inside p → Inside q → tol ≤ 65535
-    → keep (leb (dist S S') 1 && leb (dist p q) tol) v
-    ≡ keep (withinℕ tol ((S + 1) * row + p - row) ((S + 1) * row + p - row) ((S' + 1) * row + q)) v
-    + keep (withinℕ tol ((S + 1) * row + p) ((S + 1) * row + p) ((S' + 1) * row + q)) v
-    + keep (withinℕ tol ((S + 1) * row + p + row) ((S + 1) * row + p + row) ((S' + 1) * row + q)) v
+    → when (leb (dist S S') 1 && leb (dist p q) tol) v
+    ≡ when (withinℕ tol ((S + 1) * row + p - row) ((S + 1) * row + p - row) ((S' + 1) * row + q)) v
+    + when (withinℕ tol ((S + 1) * row + p) ((S + 1) * row + p) ((S' + 1) * row + q)) v
+    + when (withinℕ tol ((S + 1) * row + p + row) ((S + 1) * row + p + row) ((S' + 1) * row + q)) v
 spread S S' p q tol v P Q T =
     let a : (S + 1) * row + p - row ≡ S * row + p = omega arith in
     let b : (S + 1) * row + p + row ≡ (S + 2) * row + p = omega arith in

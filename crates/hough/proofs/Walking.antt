@@ -8,7 +8,7 @@ use native.Mathlib.Decide.{decLt}
 use lib.IntN.{ℤ}
 use lib.Dec.{ltb}
 use borrow.Author.Tests.{ltb-true, ltb-false}
-use Rattle.maps.specs.Sums.{sumTo, greatest, keep}
+use Rattle.maps.specs.Sums.{sumTo, greatest, when}
 use Rattle.maps.proofs.Sums.{sum-next}
 use Rattle.consolidate.specs.Runs.{Leads}
 use Rattle.consolidate.proofs.Leading.{leads-new, leads-on, leads-greatest, leads-first}
@@ -68,8 +68,8 @@ module _ (l : List ℤ) (n tol : ℕ) (p : Peak) (L : Leads (houghSum l n tol) n
 
 -- the bins before i that are far from bin a
 pub record Behind (l : List ℤ) (n tol a i : ℕ) (b : Background) : Type 0 where
-  pub sum : b .sum ≡ sumTo (λ j. keep (far l tol a j) (houghSum l n tol j)) i
-  pub count : b .count ≡ sumTo (λ j. keep (far l tol a j) 1) i
+  pub sum : b .sum ≡ sumTo (λ j. when (far l tol a j) (houghSum l n tol j)) i
+  pub count : b .count ≡ sumTo (λ j. when (far l tol a j) 1) i
   pub small : b .sum ≤ i * 1000000
   pub few : b .count ≤ i
 
@@ -82,21 +82,21 @@ pub behind-more : (l : List ℤ) (n tol a i : ℕ) (b q : Background) (t : Bool)
 behind-more l n tol a i b q t v eq et ev small B = go t eq et
   where
     fs : ℕ → ℕ
-    fs j = keep (far l tol a j) (houghSum l n tol j)
+    fs j = when (far l tol a j) (houghSum l n tol j)
 
     fc : ℕ → ℕ
-    fc j = keep (far l tol a j) 1
+    fc j = when (far l tol a j) 1
 
     go : (t : Bool) → q ≡ moreOf b t v → t ≡ far l tol a i → Behind l n tol a (i + 1) q
     go true eq et =
         let s : q .sum ≡ b .sum + v = ap (λ (z : Background). z .sum) eq in
         let k : q .count ≡ b .count + 1 = ap (λ (z : Background). z .count) eq in
-        let x : fs i ≡ houghSum l n tol i = ap (λ (z : Bool). keep z (houghSum l n tol i)) (sym et) in
-        let y : fc i ≡ 1 = ap (λ (z : Bool). keep z 1) (sym et) in
+        let x : fs i ≡ houghSum l n tol i = ap (λ (z : Bool). when z (houghSum l n tol i)) (sym et) in
+        let y : fc i ≡ 1 = ap (λ (z : Bool). when z 1) (sym et) in
         record { sum = omega (arith, sum-next fs i, B .sum); count = omega (arith, sum-next fc i, B .count); small = omega (arith, B .small); few = omega (arith, B .few) }
     go false eq et =
         let s : q .sum ≡ b .sum = ap (λ (z : Background). z .sum) eq in
         let k : q .count ≡ b .count = ap (λ (z : Background). z .count) eq in
-        let x : fs i ≡ 0 = ap (λ (z : Bool). keep z (houghSum l n tol i)) (sym et) in
-        let y : fc i ≡ 0 = ap (λ (z : Bool). keep z 1) (sym et) in
+        let x : fs i ≡ 0 = ap (λ (z : Bool). when z (houghSum l n tol i)) (sym et) in
+        let y : fc i ≡ 0 = ap (λ (z : Bool). when z 1) (sym et) in
         record { sum = omega (arith, sum-next fs i, B .sum); count = omega (arith, sum-next fc i, B .count); small = omega (arith, B .small); few = omega (arith, B .few) }

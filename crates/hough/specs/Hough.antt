@@ -9,7 +9,7 @@ use lib.ListN.{getD}
 use lib.Ieee.{Float, binary32, div}
 use Rattle.floats.specs.Selection.{zero}
 use Rattle.matching.specs.Scores.{whole, overMean}
-use Rattle.maps.specs.Sums.{sumTo, greatest, keep}
+use Rattle.maps.specs.Sums.{sumTo, greatest, when}
 use Rattle.consolidate.specs.Runs.{firstGreatest}
 use Rattle.consolidate.specs.Modes.{mode, modeOr}
 use Rattle.hough.specs.declared.Peak.{Peak}
@@ -45,7 +45,7 @@ neighbour l tol i j = leb (dist (scale l i) (scale l j)) 1 && leb (gap (offset l
 
 -- "an occupied bin's sum": the counts of its neighbours, itself among them
 unfoldable pub houghSum : List ℤ → ℕ → ℕ → ℕ → ℕ
-houghSum l n tol i = sumTo (λ j. keep (neighbour l tol i j) (votes l j)) n
+houghSum l n tol i = sumTo (λ j. when (neighbour l tol i j) (votes l j)) n
 
 -- "the first greatest in (scale, offset) order wins"
 unfoldable pub houghPeak : List ℤ → ℕ → ℕ → Peak
@@ -59,7 +59,7 @@ frame l tol i x = offset l i -ℤ pos tol +ℤ pos x
 
 -- the counts of bin i's neighbours at one offset
 unfoldable pub merged : List ℤ → ℕ → ℕ → ℕ → ℕ → ℕ
-merged l n tol i x = sumTo (λ j. keep (neighbour l tol i j && eqb (gap (frame l tol i x) (offset l j)) 0) (votes l j)) n
+merged l n tol i x = sumTo (λ j. when (neighbour l tol i j && eqb (gap (frame l tol i x) (offset l j)) 0) (votes l j)) n
 
 -- where no neighbour has a count, the bin's own offset, as in the Rust
 unfoldable pub peakOffset : List ℤ → ℕ → ℕ → ℕ → ℤ
@@ -71,10 +71,10 @@ abbrev pub far : List ℤ → ℕ → ℕ → ℕ → Bool
 far l tol i j = ltb 2 (dist (scale l i) (scale l j)) || ltb (2 * tol) (gap (offset l i) (offset l j))
 
 unfoldable pub farSum : List ℤ → ℕ → ℕ → ℕ → ℕ
-farSum l n tol i = sumTo (λ j. keep (far l tol i j) (houghSum l n tol j)) n
+farSum l n tol i = sumTo (λ j. when (far l tol i j) (houghSum l n tol j)) n
 
 unfoldable pub farCount : List ℤ → ℕ → ℕ → ℕ → ℕ
-farCount l n tol i = sumTo (λ j. keep (far l tol i j) 1) n
+farCount l n tol i = sumTo (λ j. when (far l tol i j) 1) n
 
 -- the sum and the number are each rounded to f32 first
 abbrev pub meanOf : ℕ → ℕ → Float

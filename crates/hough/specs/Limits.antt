@@ -8,7 +8,7 @@ use lib.Signed.{nonNeg, ltZ}
 use lib.Dec.{T, leb, ltb, eqb}
 use lib.ListN.{length}
 use Rattle.maps.specs.Sums.{sumTo}
-use Rattle.maps.specs.Lists.{every}
+use Rattle.lists.specs.Every.{every}
 use Rattle.hough.specs.Hough.{scaleWord, offset, count, scale, votes, houghPeak, peakOffset, prominence}
 use Rattle.hough.specs.declared.Peak.{Peak}
 use Rattle.hough.specs.declared.Answer.{Answer}

@@ -12,7 +12,7 @@ ghost use Prim.Native.Nat.{ℕ, _+_, _-_, _*_, _<_, _≤_, _^_};
 ghost use lib.ListN.{length, getD};
 ghost use lib.IntN.{pos};
 ghost use lib.Dec.{leb};
-ghost use Rattle.maps.specs.Lists.{every};
+ghost use Rattle.lists.specs.Every.{every};
 ghost use Rattle.consolidate.specs.Windows.{Passed, Slides, Covers};
 ghost use Rattle.hough.specs.Hough.{scale, offset, votes, dist, far, houghSum, houghPeak, peakOffset, farSum, farCount, meanOf, prominence};
 ghost use Rattle.hough.specs.Limits.{before, Bins, binOk, binsOk, answerAt, checkedAnswer};

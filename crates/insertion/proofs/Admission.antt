@@ -32,7 +32,8 @@ use Rattle.postings.specs.Retain.{unnamed, staying}
 use Rattle.merging.specs.Order.{upTo, unstoppedAt, taken, packs, ordered, keysIn, oldKeys, OverKeys}
 use Rattle.merging.proofs.Ordered.{sorted-ordered, length-ordered, keys-are, places-are, are-places}
 use Rattle.insertion.specs.Writing.{placedEntries, recorded, idIn, postingsIn, Writable}
-use Rattle.insertion.specs.Insert.{insertRun, noRow, Ready}
+use Rattle.model.specs.Run.{runInsert}
+use Rattle.insertion.specs.Insert.{noRow, Ready}
 use Rattle.insertion.proofs.Arrivals.{length-unskipped, stopped-is, postings-are}
 use Rattle.insertion.proofs.References.{recorded-is}
 use Rattle.insertion.proofs.Refusals.{refused-6, refused-7, accepted-is}
@@ -231,7 +232,7 @@ module _ (w : ℕ) (m : Words) (hashes : List ℕ) (D : Ready w m hashes) (limit
       rw (postings-many w m w2 l s, e)
 
   -- where the postings do not fit
-  pub refused-postings : length (m .postings) / w < getD (m .references) 2 0 + count → insertRun w m limit rate hashes ≡ (refused 6, m)
+  pub refused-postings : length (m .postings) / w < getD (m .references) 2 0 + count → runInsert w m limit rate hashes ≡ (refused 6, m)
   refused-postings more = refused-6 w m limit rate hashes w2 l s (D .formed) (full-is w m w2 l s ∙ D .row-left) (six-is ∙ lt-ltb (length (m .postings) / w) (p + count) more)
 
   module _ (order : List ℤ) (held : take count order ≡ packs (w - 1) hashes (ordered (w - 1) hashes (take (getD (m .references) 3 0) (m .stopped)) (hashCount w hashes))) (room : count ≤ length order) where
@@ -351,24 +352,24 @@ module _ (w : ℕ) (m : Words) (hashes : List ℕ) (D : Ready w m hashes) (limit
         full-not : eqb (length (readIndex w m .vacant)) 0 && eqb (length (readIndex w m .rows)) (sizesOf w m .R) ≡ false
         full-not = full-is w m w2 l s ∙ D .row-left
 
-        stored-run : insertRun w m limit rate hashes ≡ (stored (newId (readIndex w m)), write w (sizesOf w m) (inserted w limit (fingerprintOf w rate hashes) (readIndex w m)))
+        stored-run : runInsert w m limit rate hashes ≡ (stored (newId (readIndex w m)), write w (sizesOf w m) (inserted w limit (fingerprintOf w rate hashes) (readIndex w m)))
         stored-run = accepted-is w m limit rate hashes w2 l s (D .formed) full-not (six-is ∙ le-ltb (length (m .postings) / w) (p + count) fits) (seven-is ∙ le-ltb (length (m .stopped)) (k + n) keys-fit)
 
-        pub stored-answer : (id : ℕ) → id ≡ idIn (m .references) → stored id ≡ insertRun w m limit rate hashes .0
+        pub stored-answer : (id : ℕ) → id ≡ idIn (m .references) → stored id ≡ runInsert w m limit rate hashes .0
         stored-answer id e = ap stored (e ∙ id-is w m w2 l s) ∙ ap (λ (o : Answer × Words). o .0) (sym stored-run)
 
         pub stored-references : (rs′ : List ℕ) → rs′ ≡ recorded (m .references) (getD (m .references) 0 0) (getD (m .references) 1 0) (idIn (m .references)) (canonical rate)
             (cond (isWang w) (largestAnchor (hashesOf w hashes)) 0) (length (postingsIn w (m .references) (m .postings) hashes order count overs n)) (getD (m .references) 3 0 + n)
-            → rs′ ≡ insertRun w m limit rate hashes .1 .references
+            → rs′ ≡ runInsert w m limit rate hashes .1 .references
         stored-references rs′ e = e ∙ references-left ∙ ap (λ (o : Answer × Words). o .1 .references) (sym stored-run)
 
-        pub stored-postings : (ps′ : List ℕ) → ps′ ≡ padded (length (m .postings)) (flat (postingsIn w (m .references) (m .postings) hashes order count overs n)) → ps′ ≡ insertRun w m limit rate hashes .1 .postings
+        pub stored-postings : (ps′ : List ℕ) → ps′ ≡ padded (length (m .postings)) (flat (postingsIn w (m .references) (m .postings) hashes order count overs n)) → ps′ ≡ runInsert w m limit rate hashes .1 .postings
         stored-postings ps′ e = e ∙ postings-words ∙ ap (λ (o : Answer × Words). o .1 .postings) (sym stored-run)
 
-        pub stored-stopped : (ss′ : List ℕ) → ss′ ≡ padded (length (m .stopped)) (placeAll (λ y. y) (take n overs) (take (getD (m .references) 3 0) (m .stopped))) → ss′ ≡ insertRun w m limit rate hashes .1 .stopped
+        pub stored-stopped : (ss′ : List ℕ) → ss′ ≡ padded (length (m .stopped)) (placeAll (λ y. y) (take n overs) (take (getD (m .references) 3 0) (m .stopped))) → ss′ ≡ runInsert w m limit rate hashes .1 .stopped
         stored-stopped ss′ e = e ∙ stopped-words ∙ ap (λ (o : Answer × Words). o .1 .stopped) (sym stored-run)
 
       -- where the keys do not fit
-      pub refused-keys : getD (m .references) 2 0 + count ≤ length (m .postings) / w → length (m .stopped) < getD (m .references) 3 0 + n → insertRun w m limit rate hashes ≡ (refused 7, m)
+      pub refused-keys : getD (m .references) 2 0 + count ≤ length (m .postings) / w → length (m .stopped) < getD (m .references) 3 0 + n → runInsert w m limit rate hashes ≡ (refused 7, m)
       refused-keys fits more = refused-7 w m limit rate hashes w2 l s (D .formed) (full-is w m w2 l s ∙ D .row-left)
           (six-is ∙ le-ltb (length (m .postings) / w) (p + count) fits) (seven-is ∙ lt-ltb (length (m .stopped)) (k + n) more)

@@ -20,7 +20,8 @@ use Rattle.soundness.specs.Scan.{words}
 use Rattle.merging.specs.Order.{taken, packs, ordered, keysIn, oldKeys, ByKey, OverKeys}
 use Rattle.merging.proofs.Ordered.{length-ordered, sort-packs, is-by-key}
 use Rattle.insertion.specs.Writing.{recorded, idIn, postingsIn, Writable}
-use Rattle.insertion.specs.Insert.{insertRun, Ready}
+use Rattle.model.specs.Run.{runInsert}
+use Rattle.insertion.specs.Insert.{Ready}
 use Rattle.insertion.proofs.Admission.{Room, rooms, few-hashes, hashes-in, few-taken, refused-postings, refused-keys, writable, stored-answer, stored-references, stored-postings, stored-stopped}
 
 module _ (w : ℕ) (rs ps ss hashes : List ℕ) (limit rate : ℕ) (D : Ready w (words rs ps ss) hashes) where
@@ -68,7 +69,7 @@ module _ (w : ℕ) (rs ps ss hashes : List ℕ) (limit rate : ℕ) (D : Ready w 
       pub postings-sum : h .postings + count < 2 ^ 32
       postings-sum = omega (arith, few-new, c .postings, R .postings-fit, R .postings-few)
 
-      pub refused-six : length ps / w < h .postings + count → insertRun w (words rs ps ss) limit rate hashes ≡ (refused 6, words rs ps ss)
+      pub refused-six : length ps / w < h .postings + count → runInsert w (words rs ps ss) limit rate hashes ≡ (refused 6, words rs ps ss)
       refused-six more = refused-postings w m hashes D limit rate count many-read (rw (c .postings) at more)
 
       module _ (order₀ order : List ℤ) (held : take count order₀ ≡ packs (w - 1) hashes (taken (w - 1) hashes (take (h .stopped) ss) (length hashes / (w - 1))))
@@ -102,7 +103,7 @@ module _ (w : ℕ) (rs ps ss hashes : List ℕ) (limit rate : ℕ) (D : Ready w 
             fits-read : getD rs 2 0 + count ≤ length ps / w
             fits-read = rw (c .postings) at fits
 
-            pub refused-seven : length ss < h .stopped + n → insertRun w (words rs ps ss) limit rate hashes ≡ (refused 7, words rs ps ss)
+            pub refused-seven : length ss < h .stopped + n → runInsert w (words rs ps ss) limit rate hashes ≡ (refused 7, words rs ps ss)
             refused-seven more = refused-keys w m hashes D limit rate count many-read order held-read room overs n n-in over-read fits-read (rw (c .stopped) at more)
 
             module _ (keys-fit : h .stopped + n ≤ length ss) where
@@ -112,15 +113,15 @@ module _ (w : ℕ) (rs ps ss hashes : List ℕ) (limit rate : ℕ) (D : Ready w 
               pub may-write : Writable w rs ps ss hashes order count overs n
               may-write = writable w m hashes D limit rate count many-read order held-read room overs n n-in over-read fits-read keys-read
 
-              pub answers : (id : ℕ) → id ≡ idIn rs → stored id ≡ insertRun w (words rs ps ss) limit rate hashes .0
+              pub answers : (id : ℕ) → id ≡ idIn rs → stored id ≡ runInsert w (words rs ps ss) limit rate hashes .0
               answers = stored-answer w m hashes D limit rate count many-read order held-read room overs n n-in over-read fits-read keys-read
 
               pub leaves-references : (rs′ : List ℕ) → rs′ ≡ recorded rs (getD rs 0 0) (getD rs 1 0) (idIn rs) (canonical rate) (cond (isWang w) (largestAnchor (hashesOf w hashes)) 0)
-                  (length (postingsIn w rs ps hashes order count overs n)) (getD rs 3 0 + n) → rs′ ≡ insertRun w (words rs ps ss) limit rate hashes .1 .references
+                  (length (postingsIn w rs ps hashes order count overs n)) (getD rs 3 0 + n) → rs′ ≡ runInsert w (words rs ps ss) limit rate hashes .1 .references
               leaves-references = stored-references w m hashes D limit rate count many-read order held-read room overs n n-in over-read fits-read keys-read
 
-              pub leaves-postings : (ps′ : List ℕ) → ps′ ≡ padded (length ps) (flat (postingsIn w rs ps hashes order count overs n)) → ps′ ≡ insertRun w (words rs ps ss) limit rate hashes .1 .postings
+              pub leaves-postings : (ps′ : List ℕ) → ps′ ≡ padded (length ps) (flat (postingsIn w rs ps hashes order count overs n)) → ps′ ≡ runInsert w (words rs ps ss) limit rate hashes .1 .postings
               leaves-postings = stored-postings w m hashes D limit rate count many-read order held-read room overs n n-in over-read fits-read keys-read
 
-              pub leaves-stopped : (ss′ : List ℕ) → ss′ ≡ padded (length ss) (placeAll (λ y. y) (take n overs) (take (getD rs 3 0) ss)) → ss′ ≡ insertRun w (words rs ps ss) limit rate hashes .1 .stopped
+              pub leaves-stopped : (ss′ : List ℕ) → ss′ ≡ padded (length ss) (placeAll (λ y. y) (take n overs) (take (getD rs 3 0) ss)) → ss′ ≡ runInsert w (words rs ps ss) limit rate hashes .1 .stopped
               leaves-stopped = stored-stopped w m hashes D limit rate count many-read order held-read room overs n n-in over-read fits-read keys-read

@@ -2,7 +2,6 @@
 pub mod Times
 pub mod Arrivals
 pub mod Placed
-pub mod RowWords
 pub mod References
 pub mod Refusals
 pub mod Admission

@@ -17,6 +17,7 @@ use Rattle.model.specs.Index.{Index, newId, popped, putRow}
 use Rattle.model.specs.Calls.{Sizes}
 use Rattle.model.specs.Words.{rowWords, rowEntries, write}
 use Rattle.model.proofs.Words.{wide-rows, length-rows, row-at}
+use Rattle.model.proofs.Written.{entry-word-is}
 use Rattle.rows.specs.References.{headerPut, rowPut, entryPut, headed}
 use Rattle.rows.proofs.References.{header-headed, entry-headed, row-headed, rows-set}
 use Rattle.insertion.specs.Writing.{recorded}
@@ -31,10 +32,6 @@ references-headed w z x h =
     rw e
 
 -- ---- the last vacant entry goes
-
-entry-word : (o : Option Row) (e : ℕ) → getD (rowWords o e) 3 0 ≡ e
-entry-word none e = refl
-entry-word (some r) e = refl
 
 entry-gone : (o : Option Row) (e : ℕ) → set (rowWords o e) 3 0 ≡ rowWords o 0
 entry-gone none e = refl
@@ -92,7 +89,7 @@ module _ (rs : List (Option Row)) (vs : List ℕ) (r : Row) (R p k p′ k′ : �
       ∙ ap (λ (m : List ℕ). headerPut m n (v - 1) p′ k′)
       (row-headed n v p k es1 rest id (r .rate) (r .rmax) 1 (wide-rows rs (popped vs)) (omega (arith, l1))
       ∙ ap (λ (e : ℕ). headed n v p k (set es1 id (r .rate ∷ r .rmax ∷ 1 ∷ e ∷ [])) rest)
-      (ap (λ (m : List ℕ). getD m 3 0) (row-at rs (popped vs) id inside) ∙ entry-word (getD rs id none) (getD (popped vs) id 0))
+      (ap (λ (m : List ℕ). getD m 3 0) (row-at rs (popped vs) id inside) ∙ entry-word-is (getD rs id none) (getD (popped vs) id 0))
       ∙ ap (λ (m : List (List ℕ)). headed n v p k m rest) (sym (rows-set rs (popped vs) id (some r))))
       ∙ header-headed n v p k (rowEntries (set rs id (some r)) (popped vs)) rest n (v - 1) p′ k′
 

@@ -11,15 +11,14 @@ use Rattle.model.specs.Index.{Index, posted, unskipped, isStopped, stoppedAfter
 use Rattle.model.specs.Calls.{holds, content, Answer, stored, refused, insertTests, outcome, insertStep}
 use Rattle.model.specs.Words.{Words, sizesOf, listed, write, readIndex}
 use Rattle.model.specs.Soundness.{soundWords}
-use Rattle.model.specs.Run.{storeOf, onWords}
+use Rattle.model.specs.Run.{storeOf, onWords, runInsert}
 use Rattle.model.proofs.Stores.{sound-again, store-holds, store-again}
 use Rattle.soundness.specs.Scan.{refusalOf}
 use Rattle.soundness.proofs.Refusal.{refused-first}
-use Rattle.insertion.specs.Insert.{insertRun}
 
 -- refusals 1 and 2
-pub refused-early : (w : ℕ) (m : Words) (limit rate : ℕ) (hashes : List ℕ) → 2 ≤ w → (refusalOf w m ≡ 0 → ⊥) → insertRun w m limit rate hashes ≡ (refused (refusalOf w m), m)
-unfolding insertRun insertStep insertTests
+pub refused-early : (w : ℕ) (m : Words) (limit rate : ℕ) (hashes : List ℕ) → 2 ≤ w → (refusalOf w m ≡ 0 → ⊥) → runInsert w m limit rate hashes ≡ (refused (refusalOf w m), m)
+unfolding runInsert insertStep insertTests
 refused-early w m limit rate hashes w2 n =
     let s = storeOf w m in
     let f = fingerprintOf w rate hashes in
@@ -44,27 +43,27 @@ module _ (w : ℕ) (m : Words) (limit rate : ℕ) (hashes : List ℕ) (w2 : 2 �
   left : Option ℕ → Answer × Words
   left o = onWords w m (outcome o (holds (readIndex w m)) (stored (newId (readIndex w m))) (holds (inserted w limit (fingerprintOf w rate hashes) (readIndex w m))))
 
-  table : insertRun w m limit rate hashes ≡ left (cond (malformed w referenceMost hashes) (some 3) (cond full (some 5) (cond six (some 6) (cond seven (some 7) none))))
-  unfolding insertRun insertStep insertTests left
+  table : runInsert w m limit rate hashes ≡ left (cond (malformed w referenceMost hashes) (some 3) (cond full (some 5) (cond six (some 6) (cond seven (some 7) none))))
+  unfolding runInsert insertStep insertTests left
   table = rw (store-holds w m l s)
 
   refused-leaves : (n : ℕ) → left (some n) ≡ (refused n, m)
   unfolding left
   refused-leaves n = ap (λ (y : Words). (refused n, y)) (sound-again w m w2 l s)
 
-  pub refused-3 : malformed w referenceMost hashes ≡ true → insertRun w m limit rate hashes ≡ (refused 3, m)
+  pub refused-3 : malformed w referenceMost hashes ≡ true → runInsert w m limit rate hashes ≡ (refused 3, m)
   refused-3 a = table ∙ rw a (refused-leaves 3)
 
-  pub refused-5 : malformed w referenceMost hashes ≡ false → full ≡ true → insertRun w m limit rate hashes ≡ (refused 5, m)
+  pub refused-5 : malformed w referenceMost hashes ≡ false → full ≡ true → runInsert w m limit rate hashes ≡ (refused 5, m)
   refused-5 a b = table ∙ rw (a, b) (refused-leaves 5)
 
-  pub refused-6 : malformed w referenceMost hashes ≡ false → full ≡ false → six ≡ true → insertRun w m limit rate hashes ≡ (refused 6, m)
+  pub refused-6 : malformed w referenceMost hashes ≡ false → full ≡ false → six ≡ true → runInsert w m limit rate hashes ≡ (refused 6, m)
   refused-6 a b c = table ∙ rw (a, b, c) (refused-leaves 6)
 
-  pub refused-7 : malformed w referenceMost hashes ≡ false → full ≡ false → six ≡ false → seven ≡ true → insertRun w m limit rate hashes ≡ (refused 7, m)
+  pub refused-7 : malformed w referenceMost hashes ≡ false → full ≡ false → six ≡ false → seven ≡ true → runInsert w m limit rate hashes ≡ (refused 7, m)
   refused-7 a b c d = table ∙ rw (a, b, c, d) (refused-leaves 7)
 
   pub accepted-is : malformed w referenceMost hashes ≡ false → full ≡ false → six ≡ false → seven ≡ false
-      → insertRun w m limit rate hashes ≡ (stored (newId (readIndex w m)), write w (sizesOf w m) (inserted w limit (fingerprintOf w rate hashes) (readIndex w m)))
+      → runInsert w m limit rate hashes ≡ (stored (newId (readIndex w m)), write w (sizesOf w m) (inserted w limit (fingerprintOf w rate hashes) (readIndex w m)))
   unfolding left
   accepted-is a b c d = table ∙ rw (a, b, c, d)

@@ -6,14 +6,15 @@ use Prim.Native.Nat.{ℕ, suc, _+_, _≤_, _<_}
 use native.Mathlib.Omega.{arith}
 use lib.ListN.{length, length-append, length-map}
 use lib.Dec.{eqb, ltb}
-use borrow.Author.Tests.{eqb-true, eqb-false, eq-eqb, ne-eqb, lt-ltb, ltb-true, ltb-false}
+use borrow.Author.Tests.{eqb-true, eqb-false, ne-eqb, lt-ltb, ltb-true, ltb-false}
 use Rattle.lists.specs.Lists.{keep, some?, member, All}
 use Rattle.lists.specs.Keys.{under, Sorted, Ascending, placeAll}
 use Rattle.lists.proofs.Tests.{test}
-use Rattle.lists.proofs.Keep.{keep-yes, keep-none, keep-append, all-imp}
+use Rattle.lists.proofs.Keep.{keep-none, keep-append, all-imp}
 use Rattle.lists.proofs.Place.{sorted-ext, sorted-keep, sorted-placeAll, under-placeAll, under-map}
 use Rattle.lists.proofs.Ascending.{ascending-sorted}
 use Rattle.merging.specs.Order.{times}
+use Rattle.merging.proofs.Runs.{times-here}
 
 -- one passes exactly if what is kept is not empty
 pub some-kept : {A : Type 0} (t : A → Bool) (l : List A) → some? t l ≡ ltb 0 (length (keep t l))
@@ -40,9 +41,6 @@ either a b = test (ltb 0 a)
 
 pub times-map : {A : Type 0} (key : A → ℕ) (k : ℕ) (l : List A) → times k (map key l) ≡ length (under key k l)
 times-map key k l = ap length (under-map (λ (x : ℕ). x) key k l) ∙ length-map (under key k l) key
-
-times-here : (k : ℕ) (l : List ℕ) → times k (k ∷ l) ≡ suc (times k l)
-times-here k l = rw (keep-yes (λ (x : ℕ). eqb x k) k l (eq-eqb k k refl))
 
 times-more : (k x : ℕ) (l : List ℕ) → times k l ≤ times k (x ∷ l)
 unfolding keep

@@ -6,10 +6,9 @@ use Prim.Native.Nat.{ℕ, _-_, _/_, _≤_}
 use lib.ListN.{length, getD}
 use lib.Dec.{eqb}
 use Rattle.model.specs.Fingerprints.{malformed, referenceMost}
-use Rattle.model.specs.Calls.{Answer, stored, refused, insertStep}
-use Rattle.model.specs.Words.{Words, sizesOf, listed}
+use Rattle.model.specs.Calls.{Answer, stored, refused}
+use Rattle.model.specs.Words.{Words, listed}
 use Rattle.model.specs.Soundness.{soundWords}
-use Rattle.model.specs.Run.{storeOf, onWords}
 use Rattle.insertion.specs.declared.Insertion.{Insertion}
 use Rattle.insertion.specs.declared.Insertion.the-variants.{Refused, Stored}
 
@@ -17,10 +16,6 @@ use Rattle.insertion.specs.declared.Insertion.the-variants.{Refused, Sto
 abbrev pub insertionAnswer : Insertion → Answer
 insertionAnswer (Refused n) = refused n
 insertionAnswer (Stored id) = stored id
-
--- the model's insertion, on the store's words
-unfoldable pub insertRun : ℕ → Words → ℕ → ℕ → List ℕ → Answer × Words
-insertRun w m limit rate hashes = onWords w m (insertStep w (sizesOf w m) (storeOf w m) limit rate hashes)
 
 -- refusal 5: "v = 0 and n = R"
 unfoldable pub noRow : List ℕ → Bool

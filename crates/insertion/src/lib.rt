@@ -1,20 +1,20 @@
 // The insertion of a recording into a lent store.
 ghost use mathlib.Core.Path.{_≡_};
 ghost use mathlib.Core.Bool.{cond};
-ghost use mathlib.Core.List.{map};
-ghost use Prim.Native.Nat.{ℕ, _+_, _*_, _-_, _≤_, max};
+ghost use Prim.Native.Nat.{_+_, _*_, _-_, _≤_};
 ghost use lib.Dec.{eqb};
 ghost use lib.ListN.{length, getD, take};
 ghost use Rattle.lists.specs.Lists.{flat};
 ghost use Rattle.lists.specs.Keys.{placeAll};
-ghost use Rattle.lists.specs.Entries.{entries, padded};
-ghost use Rattle.model.specs.Fingerprints.{hashOf, hashesOf, malformed, referenceMost};
+ghost use Rattle.lists.specs.Entries.{padded};
+ghost use Rattle.model.specs.Fingerprints.{hashesOf, malformed, referenceMost};
 ghost use Rattle.model.specs.Rows.{isWang, largestAnchor, canonical};
 ghost use Rattle.model.specs.Soundness.{rowWord};
+ghost use Rattle.model.specs.Run.{runInsert};
 ghost use Rattle.merging.specs.Order.{placesIn};
 ghost use Rattle.soundness.specs.Scan.{words};
 ghost use Rattle.insertion.specs.Writing.{Placing, placedEntries, Stopping, recorded, Recording, idIn, postingsIn, Writable};
-ghost use Rattle.insertion.specs.Insert.{insertionAnswer, insertRun, Ready, noRow};
+ghost use Rattle.insertion.specs.Insert.{insertionAnswer, Ready, noRow};
 use rows::size;
 
 // "stored with an id", or "refused with a number".
@@ -54,50 +54,6 @@ fn stop_keys(stops: &mut [u32], k: usize, overs: &[u32], n: usize)
     ensures { λ _. ⌜ now (stops .exit) ≡ padded (length (now (stops .entry))) (placeAll (λ x. x) (take n (now (overs .entry))) (take k (now (stops .entry)))) ⌝ }
 {
     merging::merge_in(stops, 1, k, overs, n);
-}
-
-// A NaN's word becomes the one word that a store has for it.
-fn canonical_rate(rate: u32) -> u32
-    ensures { λ r. ⌜ r ≡ canonical rate ⌝ }
-{
-    if 0x7F80_0000 < rate % 0x8000_0000 {
-        return 0x7FC0_0000;
-    }
-    rate
-}
-
-fn larger(a: u32, b: u32) -> u32
-    ensures { λ r. ⌜ r ≡ max a b ⌝ }
-{
-    if a < b {
-        return b;
-    }
-    a
-}
-
-// The largest t_anchor of n hashes of v words.
-fn largest_anchor(hashes: &[u32], v: usize, n: usize) -> u32
-    requires { ⌜ (2 ≤ v) × (v * n ≤ length (now hashes)) ⌝ }
-    ensures { λ r. ⌜ r ≡ largestAnchor (map hashOf (entries v n (now (hashes .entry)))) ⌝ }
-{
-    let mut top = 0;
-    let mut j = 0;
-    while j < n {
-        top = larger(top, postings::word(hashes, v, j, 1));
-        j += 1;
-    }
-    top
-}
-
-// The r_max of a recording's row.
-fn row_max(hashes: &[u32], w: usize) -> u32
-    requires { ⌜ 3 ≤ w ⌝ }
-    ensures { λ r. ⌜ r ≡ cond (isWang w) (largestAnchor (hashesOf w (now (hashes .entry)))) 0 ⌝ }
-{
-    if w == 3 {
-        return largest_anchor(hashes, 2, hashes.len() / 2);
-    }
-    0
 }
 
 // The id of a new recording, where n rows and v vacant entries are in use.
@@ -167,8 +123,8 @@ fn write_recording(
         h.rows,
         h.vacant,
         id,
-        canonical_rate(rate),
-        row_max(hashes, w),
+        rows::canonical_rate(rate),
+        rows::row_max(hashes, w),
         q,
         k + n,
     );
@@ -210,10 +166,10 @@ fn admit(
     limit: u32,
 ) -> Insertion
     requires { ⌜ Ready w (words (now refs) (now posts) (now stops)) (now hashes) ⌝ }
-    ensures { λ r. ⌜ insertionAnswer r ≡ insertRun w (words (now (refs .entry)) (now (posts .entry)) (now (stops .entry))) limit rate (now (hashes .entry)) .0 ⌝ }
-    ensures { λ _. ⌜ now (refs .exit) ≡ insertRun w (words (now (refs .entry)) (now (posts .entry)) (now (stops .entry))) limit rate (now (hashes .entry)) .1 .references ⌝ }
-    ensures { λ _. ⌜ now (posts .exit) ≡ insertRun w (words (now (refs .entry)) (now (posts .entry)) (now (stops .entry))) limit rate (now (hashes .entry)) .1 .postings ⌝ }
-    ensures { λ _. ⌜ now (stops .exit) ≡ insertRun w (words (now (refs .entry)) (now (posts .entry)) (now (stops .entry))) limit rate (now (hashes .entry)) .1 .stopped ⌝ }
+    ensures { λ r. ⌜ insertionAnswer r ≡ runInsert w (words (now (refs .entry)) (now (posts .entry)) (now (stops .entry))) limit rate (now (hashes .entry)) .0 ⌝ }
+    ensures { λ _. ⌜ now (refs .exit) ≡ runInsert w (words (now (refs .entry)) (now (posts .entry)) (now (stops .entry))) limit rate (now (hashes .entry)) .1 .references ⌝ }
+    ensures { λ _. ⌜ now (posts .exit) ≡ runInsert w (words (now (refs .entry)) (now (posts .entry)) (now (stops .entry))) limit rate (now (hashes .entry)) .1 .postings ⌝ }
+    ensures { λ _. ⌜ now (stops .exit) ≡ runInsert w (words (now (refs .entry)) (now (posts .entry)) (now (stops .entry))) limit rate (now (hashes .entry)) .1 .stopped ⌝ }
 {
     let h = rows::header(refs);
     let p = h.postings;
@@ -244,10 +200,10 @@ pub fn insert(
     limit: u32,
 ) -> Insertion
     requires { ⌜ (3 ≤ w) × (w ≤ 5) ⌝ }
-    ensures { λ r. ⌜ insertionAnswer r ≡ insertRun w (words (now (refs .entry)) (now (posts .entry)) (now (stops .entry))) limit rate (now (hashes .entry)) .0 ⌝ }
-    ensures { λ _. ⌜ now (refs .exit) ≡ insertRun w (words (now (refs .entry)) (now (posts .entry)) (now (stops .entry))) limit rate (now (hashes .entry)) .1 .references ⌝ }
-    ensures { λ _. ⌜ now (posts .exit) ≡ insertRun w (words (now (refs .entry)) (now (posts .entry)) (now (stops .entry))) limit rate (now (hashes .entry)) .1 .postings ⌝ }
-    ensures { λ _. ⌜ now (stops .exit) ≡ insertRun w (words (now (refs .entry)) (now (posts .entry)) (now (stops .entry))) limit rate (now (hashes .entry)) .1 .stopped ⌝ }
+    ensures { λ r. ⌜ insertionAnswer r ≡ runInsert w (words (now (refs .entry)) (now (posts .entry)) (now (stops .entry))) limit rate (now (hashes .entry)) .0 ⌝ }
+    ensures { λ _. ⌜ now (refs .exit) ≡ runInsert w (words (now (refs .entry)) (now (posts .entry)) (now (stops .entry))) limit rate (now (hashes .entry)) .1 .references ⌝ }
+    ensures { λ _. ⌜ now (posts .exit) ≡ runInsert w (words (now (refs .entry)) (now (posts .entry)) (now (stops .entry))) limit rate (now (hashes .entry)) .1 .postings ⌝ }
+    ensures { λ _. ⌜ now (stops .exit) ≡ runInsert w (words (now (refs .entry)) (now (posts .entry)) (now (stops .entry))) limit rate (now (hashes .entry)) .1 .stopped ⌝ }
 {
     let n = soundness::refusal_of(refs, posts, stops, w);
     if n != 0 {

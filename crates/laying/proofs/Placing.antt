@@ -11,7 +11,7 @@ use Rattle.lists.specs.Lists.{keep, All, sum, flat}
 use Rattle.lists.proofs.Keep.{all-append, all-imp, all-at, all-map, all-both, all-keep, flat-append}
 use Rattle.gathering.specs.Codes.{listed, ranksFrom, placeOf, rankOf, codeOf, codes, inOrder, within, Fit}
 use Rattle.gathering.proofs.Sorts.{all-sort}
-use Rattle.gathering.proofs.Ranks.{all-listed, listed-same, sum-more, sum-take, ranks-small}
+use Rattle.gathering.proofs.Ranks.{rank-is, all-listed, listed-same, sum-more, sum-take, ranks-small}
 use Rattle.stopping.proofs.Counting.{word-is, words-many}
 use Rattle.stopping.proofs.Walk.{done, done-none, done-more, sum-few}
 use Rattle.laying.specs.Laid.{entryOf, placeBy, rankAt, Layable, StartsTo}
@@ -63,14 +63,10 @@ module _ (words : List ℕ) (w : ℕ) (lengths : List ℕ) where
   entryC c = entryOf words w (placeOf lengths (rankOf c)) (rankOf c / 8192)
 
   module _ (fit : Fit words (w - 1) lengths) where
-    pub rank-back : (r : ℕ) → r < 33554432 → rankOf (codeOf words (w - 1) lengths r) ≡ r
-    unfolding codeOf
-    rank-back r h = omega arith
-
     codes-name : All (λ c. Names lengths (rankOf c)) (codes words (w - 1) lengths)
     unfolding codes
     codes-name = all-map (codeOf words (w - 1) lengths) (λ c. Names lengths (rankOf c)) (ranksFrom 0 lengths)
-        (all-imp (λ r. (r < 33554432) × Names lengths r) (λ r. Names lengths (rankOf (codeOf words (w - 1) lengths r))) (λ r h. rw (rank-back r (h .0)) (h .1)) (ranksFrom 0 lengths)
+        (all-imp (λ r. (r < 33554432) × Names lengths r) (λ r. Names lengths (rankOf (codeOf words (w - 1) lengths r))) (λ r h. rw (rank-is words (w - 1) lengths r (h .0)) (h .1)) (ranksFrom 0 lengths)
         (all-both (λ r. r < 33554432) (Names lengths) (ranksFrom 0 lengths) (ranks-small words (w - 1) lengths fit) (ranks-name lengths (fit .short))))
 
     pub order-names : All (λ c. Names lengths (rankOf c)) (inOrder words (w - 1) lengths)

@@ -6,10 +6,11 @@ use Prim.Native.Nat.{ℕ, suc, _+_, _*_, _-_, _≤_, _<_}
 use native.Mathlib.Nat.{mul-suc}
 use native.Mathlib.Numerals.{add-one}
 use native.Mathlib.Omega.{arith}
-use lib.ListN.{length, getD, take, drop, set, replicate, length-set, length-drop, replicate-append-replicate}
-use lib.Seq.{take-suc, take-suc-set, getD-drop, getD-set-same, getD-set-other}
+use lib.ListN.{length, getD, take, drop, set, replicate, length-set, length-drop}
+use lib.Seq.{drop-length, take-suc, take-suc-set, getD-drop, getD-set-same, getD-set-other}
 use Rattle.lists.specs.Lists.{flat, sum}
 use Rattle.lists.proofs.Keep.{flat-append, flat-one}
+use Rattle.postings.specs.Retain.{cleared}
 use Rattle.gathering.specs.Codes.{listed}
 use Rattle.gathering.proofs.Ranks.{listed-more}
 use Rattle.laying.specs.Laid.{StartsTo}
@@ -50,13 +51,6 @@ put-four s at a b c d h =
     let p = put-two s₂ (at + 2) c d (omega (arith, l)) in
     rw (x, y) at p ∙ ap (λ m. m ++ c ∷ d ∷ []) (put-two s at a b (omega arith)) ∙ append-assoc (take at s) (a ∷ b ∷ []) (c ∷ d ∷ [])
 
-pub first-four : (s : List ℕ) (a b c d : ℕ) → 4 ≤ length s → set (set (set (set s 0 a) 1 b) 2 c) 3 d ≡ a ∷ b ∷ c ∷ d ∷ drop 4 s
-first-four [] a b c d h = absurd (omega arith)
-first-four (_ ∷ []) a b c d h = absurd (omega arith)
-first-four (_ ∷ _ ∷ []) a b c d h = absurd (omega arith)
-first-four (_ ∷ _ ∷ _ ∷ []) a b c d h = absurd (omega arith)
-first-four (_ ∷ _ ∷ _ ∷ _ ∷ s) a b c d h = refl
-
 -- ---- entries, one behind the other
 
 module _ (f : ℕ → List ℕ) (w : ℕ) where
@@ -73,14 +67,9 @@ module _ (f : ℕ → List ℕ) (w : ℕ) where
 
 -- ---- zeros
 
-pub zero-none : (s : List ℕ) (a : ℕ) → take a s ≡ take a s ++ replicate (a - a) 0
-zero-none s a = let e : a - a ≡ 0 = omega arith in rw (e, append-nil)
-
-pub zero-more : (s₀ s : List ℕ) (a i : ℕ) → a ≤ i → i < length s → take i s ≡ take a s₀ ++ replicate (i - a) 0 → take (i + 1) (set s i 0) ≡ take a s₀ ++ replicate (i + 1 - a) 0
-zero-more s₀ s a i h l e =
-    let n : i + 1 - a ≡ i - a + 1 = omega arith in
-    rw n (put-behind s i 0 (take a s₀ ++ replicate (i - a) 0) l e ∙ append-assoc (take a s₀) (replicate (i - a) 0) (0 ∷ [])
-    ∙ ap (λ m. take a s₀ ++ m) (replicate-append-replicate (i - a) 1 0))
+pub cleared-end : (s : List ℕ) (a : ℕ) → cleared s a (length s) ≡ take a s ++ replicate (length s - a) 0
+unfolding cleared
+cleared-end s a = rw (drop-length s, append-nil)
 
 -- ---- first hashes
 

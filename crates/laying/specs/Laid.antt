@@ -1,15 +1,17 @@
 -- Entries and rows as a build lays them down. Definitions only. Assumes nothing.
 use mathlib.Core.Path.{_≡_}
-use mathlib.Core.Bool.{cond}
-use mathlib.Core.List.{List, [], _∷_, map}
-use Prim.Native.Nat.{ℕ, zero, suc, _+_, _*_, _-_, _/_, _%_, _≤_, _<_, max}
+use mathlib.Core.List.{List, _∷_, map}
+use mathlib.Core.Option.{some}
+use Prim.Native.Nat.{ℕ, _+_, _*_, _-_, _/_, _%_, _≤_, _<_}
 use lib.IntN.{ℤ, pos}
 use lib.ListN.{length, getD, take, drop}
 use Rattle.lists.specs.Lists.{sum}
 use Rattle.lists.specs.Entries.{keyAt}
 use Rattle.maps.specs.Words.{natOf}
 use Rattle.gathering.specs.Codes.{rankOf, placeOf, inOrder}
-use Rattle.model.specs.Rows.{isWang, canonical}
+use Rattle.model.specs.Fingerprints.{hashesOf}
+use Rattle.model.specs.Rows.{rowOf}
+use Rattle.model.specs.Words.{rowWords}
 
 -- the entry of hash i, of w - 1 words, for recording id: "(key, id, t_anchor)", "(key, id, t_anchor, t_b, t_c)"
 abbrev pub entryOf : List ℕ → ℕ → ℕ → ℕ → List ℕ
@@ -38,12 +40,6 @@ laidEntries words w lengths = map (λ c. entryOf words w (placeOf lengths (rankO
 abbrev pub StartsTo : List ℕ → List ℕ → ℕ → Type 0
 StartsTo starts lengths i = (k : ℕ) → k < i → getD starts k 0 ≡ sum (take k lengths)
 
--- the largest of f 0, .., f (n - 1), "0 if there are none"
-unfoldable pub largestTo : (ℕ → ℕ) → ℕ → ℕ
-largestTo f zero = 0
-largestTo f (suc n) = max (largestTo f n) (f n)
-
--- "rate bits, r_max, live (1 or 0), vacant entry" of a recording with n hashes from `start` on
+-- the row of a recording with n hashes from `start` on
 unfoldable pub rowFor : List ℕ → ℕ → ℕ → ℕ → ℕ → List ℕ
-rowFor words w start n rate =
-    canonical rate ∷ cond (isWang w) (largestTo (λ j. getD words ((w - 1) * (start + j) + 1) 0) n) 0 ∷ 1 ∷ 0 ∷ []
+rowFor words w start n rate = rowWords (some (rowOf w (record { rate = rate; hashes = take n (drop start (hashesOf w words)) }))) 0

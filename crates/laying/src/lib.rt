@@ -2,25 +2,15 @@
 ghost use mathlib.Core.Path.{_≡_};
 ghost use mathlib.Core.Bool.{cond};
 ghost use mathlib.Core.List.{[], _∷_, _++_};
-ghost use Prim.Native.Nat.{_+_, _*_, _-_, _/_, _≤_, _<_, max};
+ghost use Prim.Native.Nat.{_+_, _*_, _-_, _/_, _≤_};
 ghost use lib.ListN.{length, take, drop, getD, replicate};
 ghost use Rattle.lists.specs.Lists.{sum, flat};
 ghost use Rattle.gathering.specs.Codes.{Fit, listed};
-ghost use Rattle.model.specs.Rows.{isWang, canonical};
-ghost use Rattle.laying.specs.Laid.{entryOf, placeBy, rankAt, Layable, laidEntries, StartsTo, largestTo, rowFor};
-
-fn size(x: u32) -> usize
-    ensures { λ r. ⌜ r ≡ x ⌝ }
-{
-    x as usize
-}
-
-fn at(s: &[u32], i: usize) -> u32
-    requires { ⌜ i < length (now s) ⌝ }
-    ensures { λ r. ⌜ r ≡ getD (now (s .entry)) i 0 ⌝ }
-{
-    s[i]
-}
+ghost use Rattle.model.specs.Fingerprints.{hashesOf};
+ghost use Rattle.model.specs.Rows.{isWang, largestAnchor};
+ghost use Rattle.laying.specs.Laid.{entryOf, placeBy, rankAt, Layable, laidEntries, StartsTo, rowFor};
+use postings::at;
+use rows::size;
 
 // n words of src from `from` on go to dst at `to`.
 fn copy_words(dst: &mut [u32], to: usize, src: &[u32], from: usize, n: usize)
@@ -111,65 +101,28 @@ pub fn zero_from(s: &mut [u32], a: usize)
     requires { ⌜ a ≤ length (now s) ⌝ }
     ensures { λ _. ⌜ now (s .exit) ≡ take a (now (s .entry)) ++ replicate (length (now (s .entry)) - a) 0 ⌝ }
 {
-    let mut i = a;
-    while i < s.len() {
-        s[i] = 0;
-        i += 1;
-    }
+    let end = s.len();
+    postings::clear(s, a, end);
 }
 
-fn canonical_rate(rate: u32) -> u32
-    ensures { λ r. ⌜ r ≡ canonical rate ⌝ }
-{
-    if 0x7F80_0000 < rate % 0x8000_0000 {
-        return 0x7FC0_0000;
-    }
-    rate
-}
-
-fn larger(a: u32, b: u32) -> u32
-    ensures { λ r. ⌜ r ≡ max a b ⌝ }
-{
-    if a < b {
-        return b;
-    }
-    a
-}
-
-// The largest t_anchor of n hashes from `start` on.
-fn largest_anchor(hashes: &[u32], v: usize, start: usize, n: usize) -> u32
-    requires { ⌜ (2 ≤ v) × (v * (start + n) ≤ length (now hashes)) ⌝ }
-    ensures { λ r. ⌜ r ≡ largestTo (λ j. getD (now (hashes .entry)) (v * (start + j) + 1) 0) n ⌝ }
-{
-    let mut top: u32 = 0;
-    let mut j = 0;
-    while j < n {
-        top = larger(top, at(hashes, v * (start + j) + 1));
-        j += 1;
-    }
-    top
-}
-
-// r_max of a recording: 0 but for Wang.
-fn rmax_of(hashes: &[u32], w: usize, start: usize, n: usize) -> u32
+// r_max of the recording whose n hashes stand from `start` on.
+fn part_max(hashes: &[u32], w: usize, start: usize, n: usize) -> u32
     requires { ⌜ (3 ≤ w) × ((w - 1) * (start + n) ≤ length (now hashes)) ⌝ }
-    ensures { λ r. ⌜ r ≡ cond (isWang w) (largestTo (λ j. getD (now (hashes .entry)) ((w - 1) * (start + j) + 1) 0) n) 0 ⌝ }
+    ensures { λ r. ⌜ r ≡ cond (isWang w) (largestAnchor (take n (drop start (hashesOf w (now (hashes .entry)))))) 0 ⌝ }
 {
-    if w == 3 {
-        return largest_anchor(hashes, w - 1, start, n);
-    }
-    0
+    let v = w - 1;
+    let a = v * start;
+    let e = v * (start + n);
+    rows::row_max(&hashes[a..e], w)
 }
 
-// A row of 4 words.
-fn put_row(refs: &mut [u32], at: usize, rate: u32, rmax: u32)
-    requires { ⌜ at + 4 ≤ length (now refs) ⌝ }
-    ensures { λ _. ⌜ take (at + 4) (now (refs .exit)) ≡ take at (now (refs .entry)) ++ rate ∷ rmax ∷ 1 ∷ 0 ∷ [] ⌝ }
+// Row i, and no vacant entry in it.
+fn lay_row(refs: &mut [u32], i: usize, rate: u32, rmax: u32)
+    requires { ⌜ 4 + 4 * i + 4 ≤ length (now refs) ⌝ }
+    ensures { λ _. ⌜ take (4 + 4 * i + 4) (now (refs .exit)) ≡ take (4 + 4 * i) (now (refs .entry)) ++ rate ∷ rmax ∷ 1 ∷ 0 ∷ [] ⌝ }
 {
-    refs[at] = rate;
-    refs[at + 1] = rmax;
-    refs[at + 2] = 1;
-    refs[at + 3] = 0;
+    rows::put_row(refs, i, rate, rmax, 1);
+    rows::put_entry(refs, i, 0);
 }
 
 // The rows of all recordings.
@@ -182,20 +135,9 @@ pub fn put_rows(refs: &mut [u32], hashes: &[u32], w: usize, lengths: &[u32], rat
     let mut i = 0;
     while i < lengths.len() {
         let n = size(at(lengths, i));
-        let rate = canonical_rate(at(rates, i));
-        put_row(refs, 4 + 4 * i, rate, rmax_of(hashes, w, start, n));
+        let rate = rows::canonical_rate(at(rates, i));
+        lay_row(refs, i, rate, part_max(hashes, w, start, n));
         start += n;
         i += 1;
     }
-}
-
-// The numbers in use.
-pub fn put_header(refs: &mut [u32], n: u32, p: u32, k: u32)
-    requires { ⌜ 4 ≤ length (now refs) ⌝ }
-    ensures { λ _. ⌜ now (refs .exit) ≡ n ∷ 0 ∷ p ∷ k ∷ drop 4 (now (refs .entry)) ⌝ }
-{
-    refs[0] = n;
-    refs[1] = 0;
-    refs[2] = p;
-    refs[3] = k;
 }

@@ -4,7 +4,7 @@ use mathlib.Core.Logic.{⊎-elim}
 use mathlib.Core.Bool.{Bool, true, false, cond}
 use mathlib.Core.List.{List, [], _∷_, _++_, map, append-assoc, append-nil}
 use Prim.Native.Nat.{ℕ, zero, suc, _+_, _*_, _-_, _≤_, _<_, min}
-use native.Mathlib.Nat.{mul-zero, mul-suc, mul-add, add-comm, add-zero, zero-add, suc-add, le-trans, mul-le-mul-left}
+use native.Mathlib.Nat.{mul-zero, mul-suc, mul-add, add-comm, add-zero, zero-add, suc-add, le-refl, le-trans, eq-or-lt-of-le, mul-le-mul-left}
 use native.Mathlib.Numerals.{add-one}
 use native.Mathlib.Omega.{arith}
 use lib.ListN.{length, getD, take, drop, replicate, length-drop, length-append, length-replicate, take-append-drop, List·getD-eq-default, replicate-append-replicate}
@@ -141,6 +141,16 @@ module _ (t : List ℕ → Bool) (w n : ℕ) (s : List ℕ) where
 
 -- ---- order, by the words and by the entries
 
+-- of any two of the first n entries the earlier has no greater key
+pub keys-le : (w n : ℕ) (s : List ℕ) → keysAscend s w n ≡ true → (i j : ℕ) → i ≤ j → j < n → keyAt s w i ≤ keyAt s w j
+unfolding keysAscend
+keys-le w n s t i zero ij jn = let e : i ≡ 0 = omega arith in rw e (le-refl (keyAt s w 0))
+keys-le w n s t i (suc j) ij jn =
+    let next = leb-true (keyAt s w j) (keyAt s w (j + 1)) (every-at (λ (i : ℕ). leb (keyAt s w i) (keyAt s w (i + 1))) (n - 1) j t (omega arith)) in
+    ⊎-elim (λ (e : i ≡ suc j). rw e (le-refl (keyAt s w (suc j))))
+    (λ (l : i < suc j). le-trans (keys-le w n s t i j (omega arith) (omega arith)) (rw add-one at next))
+    (eq-or-lt-of-le ij)
+
 module _ (w n : ℕ) (s : List ℕ) (w1 : 1 ≤ w) where
   key-at : (i : ℕ) → i < n → keyOf (getD (entries w n s) i []) ≡ keyAt s w i
   key-at i h = ap keyOf (entries-at w n s i h) ∙ entry-key w i s w1
@@ -157,9 +167,6 @@ module _ (w n : ℕ) (s : List ℕ) (w1 : 1 ≤ w) where
   entries-sorted h = every-make (λ (i : ℕ). leb (keyAt s w i) (keyAt s w (i + 1))) (n - 1) (λ i lt.
       let le : keyAt s w i ≤ keyAt s w (suc i) = (rw (key-at i (omega arith), key-at (suc i) (omega arith)) at (sorted-at keyOf (entries w n s) [] h i (suc i) (omega arith) (omega (arith, length-entries w n s)))) in
       le-leb (keyAt s w i) (keyAt s w (i + 1)) (rw add-one le))
-
-  pub keys-le : keysAscend s w n ≡ true → (i j : ℕ) → i ≤ j → j < n → keyAt s w i ≤ keyAt s w j
-  keys-le t i j ij jn = rw (key-at i (omega arith), key-at j jn) at (sorted-at keyOf (entries w n s) [] (sorted-entries t) i j ij (omega (arith, length-entries w n s)))
 
 -- ---- what a loop over entries keeps
 

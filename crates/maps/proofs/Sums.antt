@@ -9,7 +9,7 @@ use native.Mathlib.Decide.{decLt}
 use lib.IntN.{ℤ, pos, natAbs, _+ℤ_, +ℤ-idr}
 use lib.Dec.{ltb}
 use borrow.Author.Tests.{lt-ltb, le-ltb}
-use Rattle.maps.specs.Sums.{sumTo, sumToℤ, greatest, first, keep, keepℤ}
+use Rattle.maps.specs.Sums.{sumTo, sumToℤ, greatest, first, when, whenℤ}
 use Rattle.maps.proofs.Signed.{abs-add}
 
 back : (l e : ℕ) → l ≤ e → l + (e - l) ≡ e
@@ -86,24 +86,24 @@ pub sum-none : (f : ℕ → ℕ) (n : ℕ) → ((j : ℕ) → j < n → f j ≡ 
 unfolding sumTo
 sum-none f n z = sum-zeros f 0 n (omega arith) (λ j a b. z j b)
 
-mask-on : (v : ℕ → ℕ) (l k : ℕ) → sumTo (λ i. keep (ltb i l) (v i)) (l + k) ≡ sumTo v l
+mask-on : (v : ℕ → ℕ) (l k : ℕ) → sumTo (λ i. when (ltb i l) (v i)) (l + k) ≡ sumTo v l
 unfolding sumTo
-mask-on v l zero = rw add-zero (sum-cong (λ i. keep (ltb i l) (v i)) v l (λ i p. rw (lt-ltb i l p) refl))
+mask-on v l zero = rw add-zero (sum-cong (λ i. when (ltb i l) (v i)) v l (λ i p. rw (lt-ltb i l p) refl))
 mask-on v l (suc k) =
     rw (add-suc, le-ltb (l + k) l (omega arith))
-    (let a : sumTo (λ i. keep (ltb i l) (v i)) (l + k) ≡ sumTo v l = mask-on v l k in omega arith)
+    (let a : sumTo (λ i. when (ltb i l) (v i)) (l + k) ≡ sumTo v l = mask-on v l k in omega arith)
 
 -- the first l of v, as a sum over all n
-pub sum-mask : (v : ℕ → ℕ) (l n : ℕ) → l ≤ n → sumTo (λ i. keep (ltb i l) (v i)) n ≡ sumTo v l
-sum-mask v l n h = subst (λ (m : ℕ). sumTo (λ i. keep (ltb i l) (v i)) m ≡ sumTo v l) (back l n h) (mask-on v l (n - l))
+pub sum-mask : (v : ℕ → ℕ) (l n : ℕ) → l ≤ n → sumTo (λ i. when (ltb i l) (v i)) n ≡ sumTo v l
+sum-mask v l n h = subst (λ (m : ℕ). sumTo (λ i. when (ltb i l) (v i)) m ≡ sumTo v l) (back l n h) (mask-on v l (n - l))
 
-pub keep-le : (b : Bool) (v : ℕ) → keep b v ≤ v
+pub keep-le : (b : Bool) (v : ℕ) → when b v ≤ v
 keep-le true v = omega arith
 keep-le false v = omega arith
 
 -- a masked sum is at most the whole
-pub sum-kept : (k : ℕ → Bool) (v : ℕ → ℕ) (n : ℕ) → sumTo (λ i. keep (k i) (v i)) n ≤ sumTo v n
-sum-kept k v n = sum-le (λ i. keep (k i) (v i)) v n (λ i h. keep-le (k i) (v i))
+pub sum-kept : (k : ℕ → Bool) (v : ℕ → ℕ) (n : ℕ) → sumTo (λ i. when (k i) (v i)) n ≤ sumTo v n
+sum-kept k v n = sum-le (λ i. when (k i) (v i)) v n (λ i h. keep-le (k i) (v i))
 
 -- ---- sums of integers
 
@@ -138,7 +138,7 @@ sumℤ-under f (suc n) H h =
     let a : natAbs (sumToℤ f n) ≤ n * H = sumℤ-under f n H (λ j p. h j (omega arith)) in
     omega (arith, abs-add (sumToℤ f n) (f n), h n (omega arith))
 
-pub keepℤ-abs : (b : Bool) (z : ℤ) (H : ℕ) → natAbs z ≤ H → natAbs (keepℤ b z) ≤ H
+pub keepℤ-abs : (b : Bool) (z : ℤ) (H : ℕ) → natAbs z ≤ H → natAbs (whenℤ b z) ≤ H
 keepℤ-abs true z H h = h
 keepℤ-abs false z H h = omega arith
 

@@ -4,8 +4,11 @@ use mathlib.Core.Bool.{true}
 use mathlib.Core.List.{List, [], _∷_}
 use Prim.Native.Nat.{ℕ}
 use Rattle.maps.specs.Sums.{sumTo}
-use Rattle.maps.specs.Lists.{filter, flat, every}
-use Rattle.maps.specs.Entries.{entries, under, keysAscend, firstAt}
+use Rattle.lists.specs.Lists.{keep, flat}
+use Rattle.lists.specs.Every.{every}
+use Rattle.lists.specs.Entries.{entries, keyOf, keysAscend}
+use Rattle.lists.specs.Keys.{under}
+use Rattle.maps.specs.Entries.{firstAt}
 
 abbrev postings : List ℕ
 postings = 5 ∷ 0 ∷ 2 ∷ 7 ∷ 0 ∷ 4 ∷ 7 ∷ 1 ∷ 6 ∷ 9 ∷ 0 ∷ 8 ∷ []
@@ -27,6 +30,6 @@ missing : firstAt postings 3 4 6 ≡ 1
 unfolding firstAt sumTo
 missing = refl
 
-part : flat (under 7 (entries 3 4 postings)) ≡ 7 ∷ 0 ∷ 4 ∷ 7 ∷ 1 ∷ 6 ∷ []
-unfolding flat under filter entries
+part : flat (under keyOf 7 (entries 3 4 postings)) ≡ 7 ∷ 0 ∷ 4 ∷ 7 ∷ 1 ∷ 6 ∷ []
+unfolding flat keep entries
 part = refl

@@ -4,9 +4,11 @@ ghost use mathlib.Core.Bool.{true};
 ghost use Prim.Native.Nat.{_*_, _-_, _≤_, _<_, _^_};
 ghost use lib.IntN.{pos};
 ghost use lib.ListN.{length, getD, take, drop, set, replicate};
-ghost use Rattle.maps.specs.Lists.{flat};
+ghost use Rattle.lists.specs.Lists.{flat};
+ghost use Rattle.lists.specs.Entries.{entries, keyOf, keyAt, keysAscend};
+ghost use Rattle.lists.specs.Keys.{under};
 ghost use Rattle.maps.specs.Words.{natOf};
-ghost use Rattle.maps.specs.Entries.{entries, under, keyAt, keysAscend, firstAt, Split};
+ghost use Rattle.maps.specs.Entries.{firstAt, Split};
 
 fn wide(x: u32) -> u64
     ensures { λ r. ⌜ r ≡ x ⌝ }
@@ -93,7 +95,7 @@ fn between(s: &[u32], a: usize, e: usize) -> &[u32]
 // The postings under a key: a part that starts wherever the key begins.
 pub fn postings_of(posts: &[u32], w: usize, p: usize, key: u32) -> &[u32]
     requires { ⌜ (1 ≤ w) × (w * p ≤ length (now posts)) × (keysAscend (now posts) w p ≡ true) ⌝ }
-    ensures { λ r. ⌜ now r ≡ flat (under key (entries w p (now (posts .entry)))) ⌝ }
+    ensures { λ r. ⌜ now r ≡ flat (under keyOf key (entries w p (now (posts .entry)))) ⌝ }
 {
     let a = first_at(posts, w, p, wide(key));
     let e = first_from(posts, w, p, a, wide(key) + 1);

@@ -2,7 +2,8 @@
 use mathlib.Core.Path.{_≡_, refl}
 use mathlib.Core.Bool.{Bool, true, false, not, _&&_, _||_}
 use lib.Ieee.{Float, isNan}
-use Rattle.floats.proofs.Order.{test, not-both, lt-asymmetric, lt-transitive}
+use Rattle.lists.proofs.Tests.{test, not-both}
+use Rattle.floats.proofs.Order.{lt-asymmetric, lt-transitive}
 use Rattle.matching.specs.declared.MatchResult.{MatchResult}
 use Rattle.matching.specs.declared.Ordering.{Ordering}
 use Rattle.matching.specs.declared.Ordering.the-variants.{Less, Equal, Greater}

@@ -1,4 +1,3 @@
-pub mod Joined
 pub mod Members
 pub mod Taken
 pub mod Pasted

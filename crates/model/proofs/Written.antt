@@ -52,7 +52,7 @@ dead-word : (o : Option Row) (e : ℕ) → o ≡ none → getD (rowWords o e) 2 
 dead-word none e h = refl
 dead-word (some r) e h = let z : _≡_ {A = ℕ} 0 1 = cc in absurd (omega arith)
 
-entry-word-is : (o : Option Row) (e : ℕ) → getD (rowWords o e) 3 0 ≡ e
+pub entry-word-is : (o : Option Row) (e : ℕ) → getD (rowWords o e) 3 0 ≡ e
 entry-word-is none e = refl
 entry-word-is (some r) e = refl
 

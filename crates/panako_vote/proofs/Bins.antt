@@ -13,7 +13,8 @@ use lib.Ieee.Back.{unsigned-back}
 use lib.Ieee.Positive.{num, den, positive, den-pos, own-value, first-pos, through}
 use Rattle.floats.specs.Selection.{zero}
 use Rattle.floats.proofs.Exactly.{Cut, cut-of-value}
-use Rattle.floats.proofs.Order.{test, lt-asymmetric, lt-transitive}
+use Rattle.lists.proofs.Tests.{test}
+use Rattle.floats.proofs.Order.{lt-asymmetric, lt-transitive}
 use Rattle.panako_vote.specs.Votes.{whole, binAt}
 use Rattle.panako_vote.proofs.Sizes.{whole-value}
 

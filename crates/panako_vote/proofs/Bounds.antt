@@ -12,7 +12,7 @@ use lib.Ieee.{Float, nan, inf, fin, binary64, up, down, lt, le, sub, mul, div}
 use lib.Ieee.Fits.{down-pos}
 use lib.Ieee.Positive.{through}
 use Rattle.floats.specs.Rounding.{halfUp, roundToI64}
-use Rattle.floats.proofs.Order.{test}
+use Rattle.lists.proofs.Tests.{test}
 use Rattle.panako_vote.specs.Settings.{Accepted}
 use Rattle.panako_vote.specs.Grids.{gridOf, Limited}
 use Rattle.panako_vote.specs.Votes.{whole, outside, offsetAt, voteAt, span, scaleOf, voteOn, pairVote, InRange, Bounded}

@@ -11,7 +11,8 @@ use lib.Ieee.{Float, nan, inf, fin, binary64, up, down, add, sub, mul, lt, le, i
 use lib.Ieee.Fits.{and-l, and-r}
 use Rattle.floats.specs.Selection.{abs}
 use Rattle.floats.proofs.Numbers.{yes}
-use Rattle.floats.proofs.Order.{test, le-of-not-lt}
+use Rattle.lists.proofs.Tests.{test}
+use Rattle.floats.proofs.Order.{le-of-not-lt}
 use Rattle.matching.specs.Scales.{half, perBin}
 use Rattle.panako_vote.specs.Settings.{binsOf, normalised, sixtyFour, withinLimits, Accepted}
 use Rattle.panako_vote.specs.Grids.{per, gridOf, Limited}

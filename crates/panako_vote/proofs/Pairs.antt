@@ -5,7 +5,7 @@ use Prim.Native.Nat.{ℕ, _-_, _<_, _≤_}
 use native.Mathlib.Omega.{arith}
 use lib.Dec.{ltb, eqb}
 use borrow.Author.Tests.{ltb-true, ltb-false, eq-eqb, ne-eqb}
-use Rattle.floats.proofs.Order.{test}
+use Rattle.lists.proofs.Tests.{test}
 use Rattle.panako_vote.specs.Votes.{outside, scaleBin, offsetAt, noneIf, voteAt, span, scaleOf, voteOn, isVote}
 use Rattle.panako_vote.specs.declared.ScaleGrid.{ScaleGrid}
 use Rattle.panako_vote.specs.declared.Vote.{Vote}

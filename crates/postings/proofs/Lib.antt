@@ -1,6 +1,5 @@
 -- Laws that belong to no one function.
 pub mod Moves
-pub mod Joined
 pub mod Names
 pub mod Search
 pub mod Compact

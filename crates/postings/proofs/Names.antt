@@ -19,7 +19,6 @@ use Rattle.lists.proofs.Ascending.{ascending-at}
 use Rattle.maps.specs.Entries.{firstAt, Split}
 use Rattle.maps.proofs.Entries.{first-splits}
 use Rattle.postings.specs.Retain.{Names}
-use Rattle.postings.proofs.Joined.{ascend-is}
 
 member-at : (l : List ℕ) (i : ℕ) → i < length l → member (getD l i 0) l ≡ true
 unfolding some?
@@ -56,7 +55,7 @@ module _ (n : ℕ) (xs : List ℕ) (k : Names n xs) where
   -- where the search ends
   module _ (x j : ℕ) (e : j ≡ firstAt xs 1 n x) where
     split : Split xs 1 0 n x j
-    split = rw e (first-splits xs 1 n x (ascend-is xs 1 n ∙ names-ascend))
+    split = rw e (first-splits xs 1 n x (names-ascend))
 
     lower : (i : ℕ) → i < j → getD xs i 0 < x
     lower i l = rw (one-mul i) at (split .below i (omega arith) l)

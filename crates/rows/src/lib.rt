@@ -1,7 +1,12 @@
-// The references' words: the header, rows and vacant entries.
+// The references' words: the header, rows and vacant entries; and what a recording's row says.
 ghost use mathlib.Core.Path.{_≡_};
-ghost use Prim.Native.Nat.{_+_, _*_, _<_, _≤_};
+ghost use mathlib.Core.Bool.{cond};
+ghost use mathlib.Core.List.{map};
+ghost use Prim.Native.Nat.{_+_, _*_, _<_, _≤_, max};
 ghost use lib.ListN.{length};
+ghost use Rattle.lists.specs.Entries.{entries};
+ghost use Rattle.model.specs.Fingerprints.{hashOf, hashesOf};
+ghost use Rattle.model.specs.Rows.{isWang, largestAnchor, canonical};
 ghost use Rattle.model.specs.Soundness.{rowWord};
 ghost use Rattle.rows.specs.References.{CountsOf, headerPut, rowPut, entryPut};
 
@@ -68,4 +73,48 @@ pub fn put_entry(refs: &mut [u32], i: usize, id: u32)
     ensures { λ _. ⌜ now (refs .exit) ≡ entryPut (now (refs .entry)) i id ⌝ }
 {
     refs[4 * i + 7] = id;
+}
+
+// A NaN's word becomes the one word that a store has for it.
+pub fn canonical_rate(rate: u32) -> u32
+    ensures { λ r. ⌜ r ≡ canonical rate ⌝ }
+{
+    if 0x7F80_0000 < rate % 0x8000_0000 {
+        return 0x7FC0_0000;
+    }
+    rate
+}
+
+fn larger(a: u32, b: u32) -> u32
+    ensures { λ r. ⌜ r ≡ max a b ⌝ }
+{
+    if a < b {
+        return b;
+    }
+    a
+}
+
+// The largest t_anchor of n hashes of v words.
+fn largest_anchor(hashes: &[u32], v: usize, n: usize) -> u32
+    requires { ⌜ (2 ≤ v) × (v * n ≤ length (now hashes)) ⌝ }
+    ensures { λ r. ⌜ r ≡ largestAnchor (map hashOf (entries v n (now (hashes .entry)))) ⌝ }
+{
+    let mut top = 0;
+    let mut j = 0;
+    while j < n {
+        top = larger(top, postings::word(hashes, v, j, 1));
+        j += 1;
+    }
+    top
+}
+
+// The r_max of a recording's row, from all of its hashes.
+pub fn row_max(hashes: &[u32], w: usize) -> u32
+    requires { ⌜ 3 ≤ w ⌝ }
+    ensures { λ r. ⌜ r ≡ cond (isWang w) (largestAnchor (hashesOf w (now (hashes .entry)))) 0 ⌝ }
+{
+    if w == 3 {
+        return largest_anchor(hashes, 2, hashes.len() / 2);
+    }
+    0
 }

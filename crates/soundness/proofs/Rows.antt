@@ -47,15 +47,6 @@ row-fine w rs j = same (leb (rowWord rs j 2) 1) (eqb (rowWord rs j 2) 0) (eqb (r
     same true true true true fine true = refl
     same true true true true fine false = refl
 
-module _ (rs : List ℕ) (j : ℕ) where
-  pub dead-yes : rowWord rs j 2 ≡ 0 → deadRow rs j ≡ true
-  unfolding deadRow
-  dead-yes h = eq-eqb (rowWord rs j 2) 0 h
-
-  pub dead-no : (rowWord rs j 2 ≡ 0 → ⊥) → deadRow rs j ≡ false
-  unfolding deadRow
-  dead-no h = ne-eqb (rowWord rs j 2) 0 h
-
 -- words that are not in use, from place a on
 module _ (s : List ℕ) (a i : ℕ) (h : a ≤ i) where
   here : a + (i - a) ≡ i

@@ -16,7 +16,6 @@ use Rattle.lists.proofs.Entries.{keys-le}
 use Rattle.model.specs.Soundness.{stoppedStep, otherKey, keyUnstopped}
 use Rattle.maps.specs.Entries.{firstAt, Split}
 use Rattle.maps.proofs.Entries.{first-splits}
-use Rattle.postings.proofs.Joined.{ascend-is}
 use Rattle.soundness.specs.Scan.{stopsAscend}
 
 module _ (ss : List ℕ) (i : ℕ) where
@@ -58,7 +57,7 @@ module _ (w : ℕ) (ss : List ℕ) (k : ℕ) (ps : List ℕ) (p i j : ℕ) (w1 :
   key = getD ss j 0
 
   split : Split ps w 0 p key (firstAt ps w p key)
-  split = first-splits ps w p key (ascend-is ps w p ∙ up)
+  split = first-splits ps w p key (up)
 
   -- the search may start at i
   pub since : i ≤ firstAt ps w p key
@@ -86,7 +85,7 @@ module _ (w : ℕ) (ss : List ℕ) (k : ℕ) (ps : List ℕ) (p i j : ℕ) (w1 :
         (λ (h : r ≤ b).
         let rp : r < p = omega arith in
         eqb-false (keyAt ps w r) key (sym (yes-and (ltb r p) (eqb (keyAt ps w r) key) (lt-ltb r p rp)) ∙ t)
-        (omega (arith, found .above r (omega arith) rp, keys-le w p ps w1 up r b h hb)))
+        (omega (arith, found .above r (omega arith) rp, keys-le w p ps up r b h hb)))
         (λ (h : b < r). omega (arith, found .below b (omega arith) h))
         (le-or-lt r b)
 

@@ -14,7 +14,7 @@ use Rattle.lists.proofs.Tests.{test}
 use Rattle.lists.proofs.Every.{every-none, every-suc, every-same}
 use Rattle.model.specs.Soundness.{rowWord, otherEntry, vacantEntry}
 use Rattle.soundness.specs.Scan.{otherThan, unnamed}
-use Rattle.soundness.proofs.Rows.{dead-yes, dead-no}
+use Rattle.model.proofs.Facts.{is-dead, not-dead}
 
 other-yes : (rs : List ℕ) (x i : ℕ) → (rowWord rs i 3 ≡ x → ⊥) → otherThan rs x i ≡ true
 unfolding otherThan
@@ -76,8 +76,8 @@ module _ (rs : List ℕ) (n j : ℕ) {x : ℕ} (e : x ≡ rowWord rs j 3) where
 
   pub vacant-live : x < n → (rowWord rs x 2 ≡ 0 → ⊥) → vacantEntry rs n j ≡ false
   unfolding vacantEntry
-  vacant-live k d = rw (← e, lt-ltb x n k, dead-no rs x d)
+  vacant-live k d = rw (← e, lt-ltb x n k, not-dead rs x d)
 
   pub vacant-named : (b : Bool) → x < n → rowWord rs x 2 ≡ 0 → unnamed rs j x ≡ b → vacantEntry rs n j ≡ b
   unfolding vacantEntry
-  vacant-named b k d u = rw (← e, lt-ltb x n k, dead-yes rs x d) (once ∙ u)
+  vacant-named b k d u = rw (← e, lt-ltb x n k, is-dead rs x d) (once ∙ u)

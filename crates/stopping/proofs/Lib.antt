@@ -2,6 +2,5 @@
 pub mod Over
 pub mod Counting
 pub mod Stops
-pub mod Moving
 pub mod Stopping
 pub mod Walk

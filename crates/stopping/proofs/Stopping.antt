@@ -105,9 +105,9 @@ module _ (w n limit : ℕ) (s₀ : List ℕ) where
     next-key t a b =
         let en : e < n = omega arith in
         let ie = r .some in
-        let up : x ≤ keyAt s₀ w e = keys-le w n s₀ w1 asc i e (omega arith) en in
+        let up : x ≤ keyAt s₀ w e = keys-le w n s₀ asc i e (omega arith) en in
         let ne : keyAt s₀ w e ≡ x → ⊥ = λ q. r .other en (key-now e (omega arith) ∙ q ∙ sym (key-now i (omega arith))) in
-        omega (arith, up, ne, keys-le w n s₀ w1 asc e t a b)
+        omega (arith, up, ne, keys-le w n s₀ asc e t a b)
 
     shifted : (a t : ℕ) → keyAt (drop (w * a) s₀) w t ≡ keyAt s₀ w (a + t)
     shifted a t = getD-drop (w * a) s₀ (w * t) 0 ∙ rw (← (mul-add w a t))

@@ -5,7 +5,7 @@ ghost use mathlib.Core.List.{List, _++_, map};
 ghost use Prim.Native.Nat.{ℕ, _+_, _*_, _-_, _≤_, _<_};
 ghost use lib.Dec.{eqb};
 ghost use lib.IntN.{pos};
-ghost use lib.ListN.{length, take, drop, getD};
+ghost use lib.ListN.{length, take};
 ghost use Rattle.lists.specs.Lists.{flat};
 ghost use Rattle.lists.specs.Keys.{Sorted};
 ghost use Rattle.lists.specs.Entries.{keysAscend, entries};
@@ -99,20 +99,6 @@ fn run_end(posts: &[u32], w: usize, i: usize, n: usize) -> usize
     e
 }
 
-// n words from `from` on go to `to`, which is no later.
-fn move_down(s: &mut [u32], to: usize, from: usize, n: usize)
-    requires { ⌜ (to ≤ from) × (from + n ≤ length (now s)) ⌝ }
-    ensures { λ _. ⌜ (take (to + n) (now (s .exit)) ≡ take to (now (s .entry)) ++ take n (drop from (now (s .entry))))
-        × (drop (from + n) (now (s .exit)) ≡ drop (from + n) (now (s .entry))) ⌝ }
-{
-    let mut j = 0;
-    while j < n {
-        let x = s[from + j];
-        s[to + j] = x;
-        j += 1;
-    }
-}
-
 pub struct Left {
     pub postings: usize,
     pub stopped: usize,
@@ -138,7 +124,7 @@ pub fn stop_runs(posts: &mut [u32], w: usize, n: usize, stops: &mut [u32], limit
             k += 1;
             i = e;
         } else {
-            move_down(posts, w * q, w * i, w * (e - i));
+            postings::move_down(posts, w * q, w * i, w * (e - i));
             q += e - i;
             i = e;
         }

@@ -20,6 +20,7 @@ use Rattle.model.specs.Index.{Posting, Index, withoutId, erased}
 use Rattle.model.specs.Calls.{Sizes}
 use Rattle.model.specs.Words.{rowWords, rowEntries, postingWords, write}
 use Rattle.model.proofs.Words.{WidePostings, wide-rows, length-rows, row-at, wide-postings, written-postings}
+use Rattle.model.proofs.Written.{entry-word-is}
 use Rattle.postings.specs.Retain.{unnamed, staying, retained}
 use Rattle.rows.specs.References.{headerPut, entryPut, headed}
 use Rattle.rows.proofs.References.{header-headed, entry-headed, row-headed, rows-set, vacant-more}
@@ -36,11 +37,6 @@ references-are : (w : ℕ) (z : Sizes) (x : Index)
 unfolding write padded headed unused
 references-are w z x = refl
 
--- the last word of a row is its vacant entry
-entry-of : (o : Option Row) (e : ℕ) → getD (rowWords o e) 3 0 ≡ e
-entry-of none e = refl
-entry-of (some r) e = refl
-
 entry-put : (o : Option Row) (e id : ℕ) → set (rowWords o e) 3 id ≡ rowWords o id
 entry-put none e id = refl
 entry-put (some r) e id = refl
@@ -54,7 +50,7 @@ module _ (os : List (Option Row)) (es : List ℕ) (id : ℕ) (here : id < length
 
   -- the row is dead
   row-dead : set (rowEntries os es) id (noRate ∷ 0 ∷ 0 ∷ getD (getD (rowEntries os es) id []) 3 0 ∷ []) ≡ rowEntries dead es
-  row-dead = rw (row-at os es id here, entry-of (getD os id none) (getD es id 0)) (sym (rows-set os es id none))
+  row-dead = rw (row-at os es id here, entry-word-is (getD os id none) (getD es id 0)) (sym (rows-set os es id none))
 
   -- and the id the last of the vacant entries
   entry-last : set (rowEntries dead es) (length es) (set (getD (rowEntries dead es) (length es) []) 3 id) ≡ rowEntries dead (es ++ id ∷ [])

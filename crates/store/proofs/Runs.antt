@@ -25,19 +25,19 @@ use Rattle.model.proofs.Stores.{sizes-listed, references-long, postings-long, s
 use Rattle.soundness.specs.Scan.{words, refusalOf}
 use Rattle.soundness.proofs.Refusal.{refused-first}
 use Rattle.postings.specs.Retain.{staying, retained}
-use Rattle.store.specs.Answers.{countRun, removeRun}
+use Rattle.model.specs.Run.{runCount, runRemove}
 use Rattle.store.specs.Erasing.{vacated, others, othersLeft, Erasable}
 use Rattle.store.proofs.Erased.{vacated-is, held-is, left-is, stopped-is}
 
 -- ---- refused
 
 module _ (w : ℕ) (m : Words) (w2 : 2 ≤ w) (n : refusalOf w m ≡ 0 → ⊥) where
-  pub count-refused : countRun w m ≡ (refused (refusalOf w m), m)
-  unfolding countRun countStep plainTests
+  pub count-refused : runCount w m ≡ (refused (refusalOf w m), m)
+  unfolding runCount countStep plainTests
   count-refused = rw (refused-first w m [] n, store-again w m w2)
 
-  pub remove-refused : (id : ℕ) → removeRun w m id ≡ (refused (refusalOf w m), m)
-  unfolding removeRun removeStep plainTests
+  pub remove-refused : (id : ℕ) → runRemove w m id ≡ (refused (refusalOf w m), m)
+  unfolding runRemove removeStep plainTests
   remove-refused id = rw (refused-first w m [] n, store-again w m w2)
 
 -- ---- accepted
@@ -76,8 +76,8 @@ module _ (w : ℕ) (rs ps ss : List ℕ) (w3 : 3 ≤ w) (l : listed w (words rs 
   unfolding readIndex
   many-postings = length-read readPosting w (getD rs 2 0) ps
 
-  pub count-done : countRun w (words rs ps ss) ≡ (counted (getD rs 0 0 - getD rs 1 0), words rs ps ss)
-  unfolding countRun countStep plainTests
+  pub count-done : runCount w (words rs ps ss) ≡ (counted (getD rs 0 0 - getD rs 1 0), words rs ps ss)
+  unfolding runCount countStep plainTests
   count-done = rw (store-holds w m l s, many-rows, many-vacant, again)
 
   pub vacant-few : getD rs 1 0 ≤ getD rs 0 0
@@ -101,8 +101,8 @@ module _ (w : ℕ) (rs ps ss : List ℕ) (w3 : 3 ≤ w) (l : listed w (words rs 
       (is-live (entryAt 4 id (drop 4 rs)) ∙ rw (row-word rs id 2 (omega arith))))
       (le-or-lt (getD rs 0 0) id)
 
-  pub remove-dead : (id : ℕ) → liveId rs (getD rs 0 0) id ≡ false → removeRun w (words rs ps ss) id ≡ (removed false, words rs ps ss)
-  unfolding removeRun removeStep plainTests
+  pub remove-dead : (id : ℕ) → liveId rs (getD rs 0 0) id ≡ false → runRemove w (words rs ps ss) id ≡ (removed false, words rs ps ss)
+  unfolding runRemove removeStep plainTests
   remove-dead id e = rw (store-holds w m l s, live-is id, e, again)
 
   module _ (id : ℕ) (e : liveId rs (getD rs 0 0) id ≡ true) where
@@ -167,6 +167,6 @@ module _ (w : ℕ) (rs ps ss : List ℕ) (w3 : 3 ≤ w) (l : listed w (words rs 
         stopped : ss ≡ write w z (erased id x) .stopped
         stopped = ap (λ (v : Words). v .stopped) (sym again) ∙ stopped-is w z x id
 
-    pub remove-live : removeRun w (words rs ps ss) id ≡ (removed true, words (vacated rs id (length (others w rs ps id))) (othersLeft w rs ps id) ss)
-    unfolding removeRun removeStep plainTests
+    pub remove-live : runRemove w (words rs ps ss) id ≡ (removed true, words (vacated rs id (length (others w rs ps id))) (othersLeft w rs ps id) ss)
+    unfolding runRemove removeStep plainTests
     remove-live = rw (store-holds w m l s, live-is id, e, left)

@@ -6,9 +6,9 @@ use borrow.Author.Tests.{not-true, not-false}
 use mir.Syntax.{w64}
 use mir.Val.{toZ}
 use mir.ValLaws.{toZ-ofZ}
-use Rattle.maps.specs.Lists.{every}
+use Rattle.lists.specs.Every.{every}
+use Rattle.lists.proofs.Every.{every-none, every-more, every-fail}
 use Rattle.consolidate.specs.Limits.{inSpan}
-use Rattle.maps.proofs.Lists.{every-none, every-more, every-fail}
 use Rattle.consolidate.proofs.all_in_span.Statement.{statement}
 use Rattle.consolidate.proofs.all_in_span.Tie as tie
 

@@ -3,9 +3,9 @@ use mathlib.Core.Bool.{true}
 use Prim.Native.Nat.{_-_, _≤_}
 use native.Mathlib.Omega.{arith}
 use borrow.Author.Tests.{le-leb, lt-leb, not-true, not-false}
-use Rattle.maps.specs.Lists.{every}
+use Rattle.lists.specs.Every.{every}
+use Rattle.lists.proofs.Every.{every-none, every-more, every-fail}
 use Rattle.consolidate.specs.Limits.{binOk, binsOk}
-use Rattle.maps.proofs.Lists.{every-none, every-more, every-fail}
 use Rattle.consolidate.proofs.bins_ok.Statement.{statement}
 use Rattle.consolidate.proofs.bins_ok.Tie as tie
 

@@ -3,7 +3,7 @@ use mathlib.Core.Bool.{Bool}
 use native.Mathlib.Omega.{arith}
 use borrow.Author.Needs.{needs}
 use Rattle.maps.specs.Bins.{offset, votes}
-use Rattle.maps.specs.Sums.{keep}
+use Rattle.maps.specs.Sums.{when}
 use Rattle.consolidate.specs.Box.{between}
 use Rattle.consolidate.specs.Limits.{checkedMode}
 use Rattle.consolidate.proofs.Tallies.{mode-cong}
@@ -27,7 +27,7 @@ returns c =
     rw (
       sym (c .before .before .bins-ok .ensures) ∙ c .before .if1 .taken,
       c .mode-offset .ensures,
-      mode-cong (λ i. keep (between 0 n i) (votes l i)) (votes l) (offset l) n (λ i h. ap (λ (b : Bool). keep b (votes l i)) (on-between 0 n i (omega arith) h)),
+      mode-cong (λ i. when (between 0 n i) (votes l i)) (votes l) (offset l) n (λ i h. ap (λ (b : Bool). when b (votes l i)) (on-between 0 n i (omega arith) h)),
     )
     refl
 

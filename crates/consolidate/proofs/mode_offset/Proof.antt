@@ -7,7 +7,7 @@ use lib.IntN.{natAbs}
 use mir.Syntax.{w64}
 use mir.ValLaws.{toZ-ofZ}
 use Rattle.maps.specs.Bins.{offset, votes}
-use Rattle.maps.specs.Sums.{keep}
+use Rattle.maps.specs.Sums.{when}
 use Rattle.consolidate.specs.Box.{between}
 use Rattle.maps.proofs.Signed.{fits-abs}
 use Rattle.consolidate.proofs.Tallies.{Tallied, tally-none, tally-more, tally-gap, tally-small, mode-none, mode-some}
@@ -16,7 +16,7 @@ use Rattle.consolidate.proofs.mode_offset.Statement.{statement}
 use Rattle.consolidate.proofs.mode_offset.Tie as tie
 
 abbrev Inv-loop : tie.InvT-loop
-Inv-loop s n from to t₀ i₀ t i = (from ≤ i) × (i ≤ to) × Tallied (λ j. keep (between from to j) (votes s j)) (offset s) i t
+Inv-loop s n from to t₀ i₀ t i = (from ≤ i) × (i ≤ to) × Tallied (λ j. when (between from to j) (votes s j)) (offset s) i t
 
 abbrev μ-loop : tie.MeasureT-loop
 μ-loop s n from to t₀ i₀ t i = to - i
@@ -24,7 +24,7 @@ abbrev μ-loop : tie.MeasureT-loop
 loop-holds : tie.Need-loop-holds Inv-loop μ-loop
 loop-holds c =
     let a = c .args in
-    (omega arith, omega arith, tally-gap _ _ 0 (a .from) _ (omega arith) (λ j u h. ap (λ (b : Bool). keep b (votes (a .s .now) j)) (off-before (a .from) (a .to) j h)) (tally-none _ _))
+    (omega arith, omega arith, tally-gap _ _ 0 (a .from) _ (omega arith) (λ j u h. ap (λ (b : Bool). when b (votes (a .s .now) j)) (off-before (a .from) (a .to) j h)) (tally-none _ _))
 
 votes-at-requires : tie.Need-votes-at-requires Inv-loop μ-loop
 votes-at-requires c κs = search needs
@@ -57,8 +57,8 @@ loop-again c =
     let o = c .before .before .before .before .before in
     let h = c .before .before .before .before .loop in
     let l = o .args .s .now in
-    let e : keep (between (o .args .from) (o .args .to) (h .i)) (votes l (h .i)) ≡ votes l (h .i)
-    = ap (λ (b : Bool). keep b (votes l (h .i))) (on-between (o .args .from) (o .args .to) (h .i) (h .inv .0) (c .before .before .before .loop-test .taken)) in (
+    let e : when (between (o .args .from) (o .args .to) (h .i)) (votes l (h .i)) ≡ votes l (h .i)
+    = ap (λ (b : Bool). when b (votes l (h .i))) (on-between (o .args .from) (o .args .to) (h .i) (h .inv .0) (c .before .before .before .loop-test .taken)) in (
       omega arith,
       omega arith,
       rw (c .tallied .ensures, toZ-ofZ w64 (c .before .offset-at .result) (record { sfits = c .before .offset-at .ok }), c .before .offset-at .ensures, c .before .before .votes-at .ensures)
@@ -67,11 +67,11 @@ loop-again c =
 
 -- the tally, once the loop is done, is that of all n bins
 done : (c : tie.After-loop Inv-loop μ-loop) → let o = c .before .before in
-    Tallied (λ j. keep (between (o .args .from) (o .args .to) j) (votes (o .args .s .now) j)) (offset (o .args .s .now)) (o .args .n) (c .before .loop .t)
+    Tallied (λ j. when (between (o .args .from) (o .args .to) j) (votes (o .args .s .now) j)) (offset (o .args .s .now)) (o .args .n) (c .before .loop .t)
 done c =
     let o = c .before .before in
     let h = c .before .loop in
-    tally-gap _ _ (h .i) (o .args .n) (h .t) (omega arith) (λ j a b. ap (λ (k : Bool). keep k (votes (o .args .s .now) j)) (off-after (o .args .from) (o .args .to) j (omega arith))) (h .inv .2)
+    tally-gap _ _ (h .i) (o .args .n) (h .t) (omega arith) (λ j a b. ap (λ (k : Bool). when k (votes (o .args .s .now) j)) (off-after (o .args .from) (o .args .to) j (omega arith))) (h .inv .2)
 
 returns : tie.Need-returns Inv-loop μ-loop
 returns c = mode-none _ _ _ _ (done (c .before .before)) (c .if1 .taken)

@@ -5,7 +5,7 @@ use borrow.Author.Needs.{needs}
 use borrow.Author.Tests.{not-true, not-false}
 use mir.Syntax.{w64}
 use mir.ValLaws.{toZ-ofZ}
-use Rattle.maps.specs.Lists.{every}
+use Rattle.lists.specs.Every.{every}
 use Rattle.consolidate.specs.Limits.{binsOk, endsOk, inSpan, spanOk}
 use Rattle.consolidate.proofs.Checks.{bins-of}
 use Rattle.consolidate.proofs.span_ok.Statement.{statement}

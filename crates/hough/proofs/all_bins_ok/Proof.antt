@@ -3,8 +3,8 @@ use mathlib.Core.Bool.{true}
 use Prim.Native.Nat.{_-_, _≤_}
 use native.Mathlib.Omega.{arith}
 use borrow.Author.Tests.{not-true, not-false}
-use Rattle.maps.specs.Lists.{every}
-use Rattle.maps.proofs.Lists.{every-none, every-more, every-fail}
+use Rattle.lists.specs.Every.{every}
+use Rattle.lists.proofs.Every.{every-none, every-more, every-fail}
 use Rattle.hough.specs.Limits.{binOk}
 use Rattle.hough.proofs.all_bins_ok.Statement.{statement}
 use Rattle.hough.proofs.all_bins_ok.Tie as tie

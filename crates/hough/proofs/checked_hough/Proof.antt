@@ -2,7 +2,7 @@ use mathlib.Core.Path.{refl}
 use mathlib.Core.Bool.{_&&_}
 use lib.Dec.{leb, ltb}
 use borrow.Author.Tests.{ltb-true, leb-true}
-use Rattle.maps.proofs.Tests.{and-left, and-right}
+use Rattle.lists.proofs.Tests.{and-left, and-right}
 use Rattle.hough.specs.Limits.{binsOk, checkedAnswer}
 use Rattle.hough.proofs.Checks.{bins-of}
 use borrow.Author.Needs.{needs}

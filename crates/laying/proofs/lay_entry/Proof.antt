@@ -1,10 +1,10 @@
+-- `laying::lay_entry` meets its contract. Assumes nothing.
 use borrow.Author.Needs.{needs}
 use native.Mathlib.Omega.{arith}
 use mathlib.Core.Path.{_∙_}
 use Prim.Native.Nat.{_+_, _*_, _-_}
 use lib.ListN.{take, drop, length-set}
 use Rattle.laying.proofs.Prefix.{entry-done}
-use borrow.Author.Needs.{needs}
 use Rattle.laying.proofs.lay_entry.Statement.{statement}
 use Rattle.laying.proofs.lay_entry.Tie as tie
 

@@ -1,3 +1,4 @@
+-- `laying::put_rows` meets its contract. Assumes nothing.
 use borrow.Author.Needs.{needs}
 use native.Mathlib.Omega.{arith}
 use mathlib.Core.Path.{_≡_, refl, sym, ap, _∙_}
@@ -62,25 +63,13 @@ at-requires-2 c κs =
 canonical-rate-requires : tie.Need-canonical-rate-requires Inv-loop μ-loop
 canonical-rate-requires c κs = search needs
 
-mul-put-row : tie.Need-mul-put-row Inv-loop μ-loop
-mul-put-row c =
-    let s = c .before .before .before .before .before .before .before .before .before .before .before in
-    let l = c .before .before .before .before .before .before .loop in
-    omega (arith, s .pre .1)
-
-add-put-row : tie.Need-add-put-row Inv-loop μ-loop
-add-put-row c =
-    let s = c .before .before .before .before .before .before .before .before .before .before .before in
-    let l = c .before .before .before .before .before .before .loop in
-    omega (arith, s .pre .1)
-
-rmax-of-requires : tie.Need-rmax-of-requires Inv-loop μ-loop
-rmax-of-requires c κs =
+part-max-requires : tie.Need-part-max-requires Inv-loop μ-loop
+part-max-requires c κs =
     let A = c .before .before .before .before in
     (o A .pre .0, rw (c .before .before .before .size .ensures, A .at .ensures) (in-words A))
 
-put-row-requires : tie.Need-put-row-requires Inv-loop μ-loop
-put-row-requires c κs =
+lay-row-requires : tie.Need-lay-row-requires Inv-loop μ-loop
+lay-row-requires c κs =
     let s = c .before .before .before .before .before .before .before .before .before .before .before .before in
     let l = c .before .before .before .before .before .before .before .loop in
     omega (arith, s .pre .1, l .inv .2)
@@ -101,10 +90,10 @@ loop-again c =
     let A = c .before .before .before .before .before .before .before .before in
     let s = o A in
     let l = I A .before .loop in
-    let g = c .before .before .put-row in
+    let g = c .before .before .lay-row in
     let n : c .before .before .before .before .before .before .before .size .result ≡ getD (s .args .lengths .now) (l .i) 0 = c .before .before .before .before .before .before .before .size .ensures ∙ A .at .ensures in
-    let same = row-is (s .args .hashes .now) (s .args .w) (sum (take (l .i) (s .args .lengths .now))) (getD (s .args .lengths .now) (l .i) 0) (getD (s .args .rates .now) (l .i) 0) (l .start) (c .before .before .before .before .before .before .before .size .result) (c .before .before .before .before .before .canonical-rate .result) (c .before .before .before .rmax-of .result)
-    (c .before .before .before .before .before .canonical-rate .ensures ∙ ap canonical (c .before .before .before .before .before .before .at2 .ensures)) (c .before .before .before .rmax-of .ensures) (l .inv .1) n in
+    let same = row-is (s .args .hashes .now) (s .args .w) (sum (take (l .i) (s .args .lengths .now))) (getD (s .args .lengths .now) (l .i) 0) (getD (s .args .rates .now) (l .i) 0) (l .start) (c .before .before .before .before .before .before .before .size .result) (c .before .before .before .before .before .canonical-rate .result) (c .before .before .before .part-max .result)
+    (c .before .before .before .before .before .canonical-rate .ensures ∙ ap canonical (c .before .before .before .before .before .before .at2 .ensures)) (c .before .before .before .part-max .ensures) (l .inv .1) n in
     let e = g .ensures ∙ ap (λ (m : List ℕ). take (4 + 4 * l .i) (l .refs) ++ m) same in
     (omega arith, omega (arith, next A, n), g .kept .0 ∙ l .inv .2, rows-more (row A) (s .args .refs .now) (l .refs) (g .last .0) (l .i) (l .inv .3) e)
 
@@ -130,10 +119,8 @@ put-rows-spec =
     size-requires
     at-requires-2
     canonical-rate-requires
-    mul-put-row
-    add-put-row
-    rmax-of-requires
-    put-row-requires
+    part-max-requires
+    lay-row-requires
     add-start
     add-i
     loop-less

@@ -6,9 +6,11 @@ use mathlib.Core.Logic.{_⊎_, inl, inr}
 use Prim.Native.Nat.{ℕ, _+_, _-_, _≤_, _<_}
 use native.Mathlib.Omega.{arith}
 use borrow.Author.Needs.{needs}
-use Rattle.maps.specs.Entries.{keyAt, keysAscend, firstAt}
-use Rattle.maps.proofs.Tests.{le-or-lt}
-use Rattle.maps.proofs.Entries.{stride, scale-le, ascend-prefix, first-splits, first-among}
+use Rattle.maps.specs.Entries.{firstAt}
+use Rattle.lists.specs.Entries.{keyAt, keysAscend}
+use Rattle.lists.proofs.Tests.{le-or-lt}
+use Rattle.lists.proofs.Entries.{stride}
+use Rattle.maps.proofs.Entries.{scale-le, ascend-prefix, first-splits, first-among}
 use Rattle.maps.proofs.first_from.Statement.{statement}
 use Rattle.maps.proofs.first_from.Tie as tie
 

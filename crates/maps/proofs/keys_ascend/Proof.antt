@@ -1,16 +1,20 @@
 -- `maps::keys_ascend` meets its contract: the first `i` keys are none above the next. Assumes nothing.
 use mathlib.Core.Path.{_≡_, sym}
-use mathlib.Core.Bool.{true, false}
+use mathlib.Core.Bool.{Bool, true, false}
 use mathlib.Core.List.{List}
 use Prim.Native.Nat.{ℕ, _+_, _-_, _≤_, _<_}
 use native.Mathlib.Omega.{arith}
+use lib.Dec.{leb}
 use borrow.Author.Tests.{le-leb, lt-leb}
-use Rattle.maps.specs.Lists.{every}
-use Rattle.maps.specs.Entries.{keyAt, keyStep, keysAscend}
-use Rattle.maps.proofs.Lists.{every-none, every-more, every-fail}
-use Rattle.maps.proofs.Entries.{stride}
+use Rattle.lists.specs.Every.{every}
+use Rattle.lists.specs.Entries.{keyAt, keysAscend}
+use Rattle.lists.proofs.Every.{every-none, every-more, every-fail}
+use Rattle.lists.proofs.Entries.{stride}
 use Rattle.maps.proofs.keys_ascend.Statement.{statement}
 use Rattle.maps.proofs.keys_ascend.Tie as tie
+
+abbrev keyStep : List ℕ → ℕ → ℕ → Bool
+keyStep ps w i = leb (keyAt ps w i) (keyAt ps w (i + 1))
 
 step-yes : (ps : List ℕ) (w i : ℕ) → keyAt ps w i ≤ keyAt ps w (i + 1) → keyStep ps w i ≡ true
 step-yes ps w i h = le-leb (keyAt ps w i) (keyAt ps w (i + 1)) h

@@ -2,8 +2,8 @@
 use Prim.Native.Nat.{ℕ, _+_, _-_, _/_, _≤_, _<_}
 use native.Mathlib.Omega.{arith}
 use borrow.Author.Needs.{needs}
-use Rattle.maps.specs.Entries.{keyAt}
-use Rattle.maps.proofs.Entries.{stride, keys-le}
+use Rattle.lists.specs.Entries.{keyAt}
+use Rattle.lists.proofs.Entries.{stride, keys-le}
 use Rattle.maps.proofs.search.Statement.{statement}
 use Rattle.maps.proofs.search.Tie as tie
 
@@ -43,7 +43,7 @@ loop-again c =
     let s = c .before .before .before .before .before .before in
     let l = c .before .before .before .before .loop in
     let mid = l .lo + (l .hi - l .lo) / 2 in
-    let up = keys-le (s .args .posts .now) (s .args .w) (s .args .to) (s .pre .3) in
+    let up = keys-le (s .args .w) (s .args .to) (s .args .posts .now) (s .pre .3) in
     (omega arith, omega arith, omega arith, (λ i u h. omega (arith, up i mid (omega arith) (omega arith))), l .inv .4)
 
 loop-less-2 : tie.Need-loop-less-2 Inv-loop μ-loop
@@ -54,7 +54,7 @@ loop-again-2 c =
     let s = c .before .before .before .before .before .before in
     let l = c .before .before .before .before .loop in
     let mid = l .lo + (l .hi - l .lo) / 2 in
-    let up = keys-le (s .args .posts .now) (s .args .w) (s .args .to) (s .pre .3) in
+    let up = keys-le (s .args .w) (s .args .to) (s .args .posts .now) (s .pre .3) in
     (omega arith, omega arith, omega arith, l .inv .3, (λ i h k. omega (arith, up mid i (omega arith) k)))
 
 returns : tie.Need-returns Inv-loop μ-loop

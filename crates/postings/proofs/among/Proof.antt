@@ -3,7 +3,6 @@ use mathlib.Core.Path.{sym, ap, _∙_}
 use Prim.Native.Nat.{ℕ}
 use native.Mathlib.Omega.{arith}
 use lib.Dec.{eqb}
-use Rattle.postings.proofs.Joined.{ascend-is}
 use Rattle.postings.proofs.Names.{names-ascend, among-past, among-at}
 use borrow.Author.Needs.{needs}
 use Rattle.postings.proofs.among.Statement.{statement}
@@ -14,7 +13,7 @@ wide-requires c κs = search needs
 
 first-at-requires : tie.Need-first-at-requires
 first-at-requires c κs = let s = c .before .before in
-    (omega arith, omega (arith, s .pre .room), ascend-is (s .args .xs .now) 1 (s .args .n) ∙ names-ascend (s .args .n) (s .args .xs .now) (s .pre))
+    (omega arith, omega (arith, s .pre .room), names-ascend (s .args .n) (s .args .xs .now) (s .pre))
 
 returns : tie.Need-returns
 returns c = let s = c .before .before .before .before in

@@ -77,7 +77,7 @@ mul-clear-2 : tie.Need-mul-clear-2 Inv-loop μ-loop
 mul-clear-2 c = omega (arith, after-low (c .before))
 
 clear-requires : tie.Need-clear-requires Inv-loop μ-loop
-clear-requires c κs = (omega (arith, after-low (c .before)), omega (arith, c .before .before .loop .inv .1 .len))
+clear-requires c κs = (omega (arith, after-low (c .before)), omega (arith, after-low (c .before), c .before .before .loop .inv .1 .len))
 
 same-length : tie.Need-same-length Inv-loop μ-loop
 same-length c = c .before .before .clear .kept .0 ∙ c .before .before .before .before .before .loop .inv .1 .len

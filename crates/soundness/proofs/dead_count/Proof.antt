@@ -5,7 +5,7 @@ use native.Mathlib.Omega.{arith}
 use Rattle.lists.specs.Every.{count}
 use Rattle.lists.proofs.Every.{count-none, count-yes, count-no}
 use Rattle.model.specs.Soundness.{deadRow}
-use Rattle.soundness.proofs.Rows.{dead-yes, dead-no}
+use Rattle.model.proofs.Facts.{is-dead, not-dead}
 use Rattle.soundness.proofs.dead_count.Statement.{statement}
 use Rattle.soundness.proofs.dead_count.Tie as tie
 
@@ -33,7 +33,7 @@ loop-less c = omega arith
 loop-again : tie.Need-loop-again Inv-loop μ-loop
 loop-again c = let s = c .before .before .before .before .before in
     let l = c .before .before .before .loop in
-    (omega arith, omega arith, omega (arith, count-yes (deadRow (s .args .refs .now)) (l .j) (dead-yes (s .args .refs .now) (l .j) (sym (c .before .row-word .ensures) ∙ c .if1 .taken))))
+    (omega arith, omega arith, omega (arith, count-yes (deadRow (s .args .refs .now)) (l .j) (is-dead (s .args .refs .now) (l .j) (sym (c .before .row-word .ensures) ∙ c .if1 .taken))))
 
 add-j-2 : tie.Need-add-j-2 Inv-loop μ-loop
 add-j-2 c = omega arith
@@ -44,7 +44,7 @@ loop-less-2 c = omega arith
 loop-again-2 : tie.Need-loop-again-2 Inv-loop μ-loop
 loop-again-2 c = let s = c .before .before .before .before .before in
     let l = c .before .before .before .loop in
-    (omega arith, omega arith, omega (arith, count-no (deadRow (s .args .refs .now)) (l .j) (dead-no (s .args .refs .now) (l .j) (λ e. c .if1 .left (c .before .row-word .ensures ∙ e)))))
+    (omega arith, omega arith, omega (arith, count-no (deadRow (s .args .refs .now)) (l .j) (not-dead (s .args .refs .now) (l .j) (λ e. c .if1 .left (c .before .row-word .ensures ∙ e)))))
 
 returns : tie.Need-returns Inv-loop μ-loop
 returns c = let e : c .before .loop .j ≡ c .before .before .before .args .n = omega arith in

@@ -3,7 +3,6 @@ use mathlib.Core.Path.{_≡_, sym, _∙_}
 use Prim.Native.Nat.{_-_, _≤_}
 use native.Mathlib.Omega.{arith}
 use borrow.Author.Needs.{needs}
-use Rattle.postings.proofs.Joined.{ascend-is}
 use Rattle.soundness.proofs.Stopped.{Walked, walked-none, since, inside, walked-hit, walked-more, walked-out}
 use borrow.Author.Needs.{needs}
 use borrow.Author.Needs.{needs}
@@ -28,7 +27,7 @@ wide-requires c κs = search needs
 first-from-requires : tie.Need-first-from-requires Inv-loop μ-loop
 first-from-requires c κs = let s = c .before .before .before .before .before .before in
     let l = c .before .before .before .loop in
-    (omega arith, s .pre .0 .1, ascend-is (s .args .posts .now) (s .args .w) (s .args .p) ∙ s .pre .1 .0, rw (c .wide .ensures, c .before .at .ensures) (since (s .args .w) (s .args .stops .now) (s .args .k) (s .args .posts .now) (s .args .p) (l .i) (l .j) (omega arith) (s .pre .1 .0) (s .pre .1 .1) (omega arith) (l .inv .1) (l .inv .2)))
+    (omega arith, s .pre .0 .1, s .pre .1 .0, rw (c .wide .ensures, c .before .at .ensures) (since (s .args .w) (s .args .stops .now) (s .args .k) (s .args .posts .now) (s .args .p) (l .i) (l .j) (omega arith) (s .pre .1 .0) (s .pre .1 .1) (omega arith) (l .inv .1) (l .inv .2)))
 
 has-key-requires : tie.Need-has-key-requires Inv-loop μ-loop
 has-key-requires c κs = let s = c .before .before .before .before .before .before .before in

@@ -1,6 +1,6 @@
+-- `stopping::next_run` meets its contract. Assumes nothing.
 use borrow.Author.Needs.{needs}
 use borrow.Author.Tests.{eq-eqb, ne-eqb}
-use borrow.Author.Needs.{needs}
 use Rattle.stopping.proofs.next_run.Statement.{statement}
 use Rattle.stopping.proofs.next_run.Tie as tie
 

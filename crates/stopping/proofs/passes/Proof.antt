@@ -1,9 +1,9 @@
+-- `stopping::passes` meets its contract. Assumes nothing.
 use borrow.Author.Needs.{needs}
 use native.Mathlib.Omega.{arith}
 use mathlib.Core.Path.{refl}
 use Prim.Native.Nat.{_+_}
 use borrow.Author.Tests.{eq-eqb, ne-eqb}
-use borrow.Author.Needs.{needs}
 use Rattle.stopping.proofs.passes.Statement.{statement}
 use Rattle.stopping.proofs.passes.Tie as tie
 

@@ -1,10 +1,12 @@
+-- `stopping::stop_runs` meets its contract. Assumes nothing.
 use native.Mathlib.Omega.{arith}
 use mathlib.Core.Path.{_≡_, ap, _∙_}
 use Prim.Native.Nat.{ℕ, _+_, _*_, _-_, _≤_}
 use native.Mathlib.Nat.{mul-le-mul-left}
-use lib.ListN.{length}
+use lib.ListN.{length, take, drop}
 use Rattle.lists.specs.Lists.{flat}
 use Rattle.lists.proofs.Entries.{stride}
+use Rattle.postings.proofs.Moves.{take-moved, drop-behind}
 use Rattle.stopping.proofs.Stopping.{Stopping, stopping-none, fewer, key-now, in-words, stops-room, stopping-stop, stopping-keep, kept-end, stops-end}
 use Rattle.stopping.proofs.stop_runs.Statement.{statement}
 use Rattle.stopping.proofs.stop_runs.Tie as tie
@@ -138,8 +140,13 @@ loop-again-2 c =
     let s = o R in
     let l = I R .before .loop in
     let m = c .before .before .move-down in
+    let n : ℕ = s .args .w * (e R - l .i) in
+    let low = mul-le-mul-left (s .args .w) (fewer (s .args .w) (s .args .n) (s .args .limit) (s .args .posts .now) (s .args .stops .now) (l .posts) (l .stops) (l .i) (l .q) (l .k) (h R)) in
+    let high = in-words (s .args .w) (s .args .n) (s .args .limit) (s .args .posts .now) (s .pre .0) (s .pre .1) (s .pre .2) (s .args .stops .now) (l .posts) (l .stops) (l .i) (l .q) (l .k) (e R) (h R) (I R .loop-test .taken) (R .run-end .ensures) in
     stopping-keep (s .args .w) (s .args .n) (s .args .limit) (s .args .posts .now) (s .pre .0) (s .pre .1) (s .pre .2) (s .args .stops .now) (l .posts) (l .stops) (l .i) (l .q) (l .k) (e R) (h R) (I R .loop-test .taken) (R .run-end .ensures) (c .before .before .before .before .if1 .left)
-    (m .last .0) (m .kept .0) (m .ensures .0) (m .ensures .1)
+    (m .last .0) (m .kept .0)
+    (ap (take (s .args .w * l .q + n)) (m .ensures) ∙ take-moved (l .posts) (s .args .w * l .q) (s .args .w * l .i) n low high)
+    (ap (drop (s .args .w * l .i + n)) (m .ensures) ∙ drop-behind (l .posts) (s .args .w * l .q) (s .args .w * l .i) n low high)
 
 same-length : tie.Need-same-length Inv-loop μ-loop
 same-length c =

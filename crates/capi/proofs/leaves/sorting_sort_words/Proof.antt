@@ -1,6 +1,6 @@
 -- `capi::leaves::sorting_sort_words` meets its contract. Assumes nothing.
 use borrow.Author.Tests.{le-leb, lt-leb}
-use Rattle.floats.proofs.Order.{not-both}
+use Rattle.lists.proofs.Tests.{not-both}
 use borrow.Author.Needs.{needs}
 use Rattle.capi.proofs.leaves.sorting_sort_words.Statement.{statement}
 use Rattle.capi.proofs.leaves.sorting_sort_words.Tie as tie

@@ -1,0 +1,2 @@
+-- A build's answer.
+pub mod Answers
