@@ -7,7 +7,7 @@ use crate::capi::{self, Answer};
 use crate::harness::Rng;
 use audiofp::Reach;
 use audiofp::matching::TimeOffset;
-use std::cell::RefCell;
+use std::cell::{Cell, RefCell};
 use std::hint::black_box;
 use std::time::{Duration, Instant};
 
@@ -16,9 +16,10 @@ const TURNS: usize = 41;
 
 /// Prints a markdown table: a median over the turns, in ns a call.
 pub fn run(only: Option<&str>) {
-    println!("| function | inputs | ours, ns | Rust, ns | ours / Rust |");
-    println!("|---|---|---|---|---|");
-    let table = Table { only };
+    let table = Table {
+        only,
+        begun: Cell::new(false),
+    };
     let mut rng = Rng(1);
     u64_to_f32(&table, "below 2,048", || rng.below(2048));
     u64_to_f32(&table, "2^24 to 2^40", || {
@@ -50,6 +51,8 @@ pub fn run(only: Option<&str>) {
 
 struct Table<'a> {
     only: Option<&'a str>,
+    /// Whether its head is printed.
+    begun: Cell<bool>,
 }
 
 impl Table<'_> {
@@ -85,6 +88,10 @@ impl Table<'_> {
     ) {
         if self.only.is_some_and(|only| !name.contains(only)) {
             return;
+        }
+        if !self.begun.replace(true) {
+            println!("| function | inputs | ours, ns | Rust, ns | ours / Rust |");
+            println!("|---|---|---|---|---|");
         }
         let mut times = [Vec::new(), Vec::new()];
         // The first turn warms the caches and is not counted.

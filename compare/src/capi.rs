@@ -103,3 +103,164 @@ pub fn hough_panako_peak(bins: &[i64], tol: u64) -> Answer {
     unsafe { raw::hough_panako_peak(bins.as_ptr(), bins.len(), tol, &mut answer) };
     answer
 }
+
+/// The slices of a store: references, postings, stopped keys.
+pub type Lent<'a> = [&'a mut [u32]; 3];
+
+/// The calls of one index on a lent store.
+#[derive(Clone, Copy)]
+pub struct Entries {
+    /// Hashes, lengths, rates, limit.
+    pub build: fn(Lent<'_>, &[u32], &[u32], &[u32], u32) -> Answer,
+    /// Hashes, rate, limit.
+    pub insert: fn(Lent<'_>, &[u32], u32, u32) -> Answer,
+    pub remove: fn(Lent<'_>, u32) -> Answer,
+    pub live_count: fn([&[u32]; 3]) -> Answer,
+}
+
+macro_rules! entries {
+    ($list:ident, $build:ident, $insert:ident, $remove:ident, $live_count:ident) => {
+        pub const $list: Entries = {
+            unsafe extern "C" {
+                fn $build(
+                    refs: *mut u32,
+                    refs_len: usize,
+                    postings: *mut u32,
+                    postings_len: usize,
+                    stopped: *mut u32,
+                    stopped_len: usize,
+                    hashes: *const u32,
+                    hashes_len: usize,
+                    lengths: *const u32,
+                    lengths_len: usize,
+                    rates: *const u32,
+                    rates_len: usize,
+                    limit: u32,
+                    answer: &mut Answer,
+                );
+                fn $insert(
+                    refs: *mut u32,
+                    refs_len: usize,
+                    postings: *mut u32,
+                    postings_len: usize,
+                    stopped: *mut u32,
+                    stopped_len: usize,
+                    hashes: *const u32,
+                    hashes_len: usize,
+                    rate: u32,
+                    limit: u32,
+                    answer: &mut Answer,
+                );
+                fn $remove(
+                    refs: *mut u32,
+                    refs_len: usize,
+                    postings: *mut u32,
+                    postings_len: usize,
+                    stopped: *mut u32,
+                    stopped_len: usize,
+                    id: u32,
+                    answer: &mut Answer,
+                );
+                fn $live_count(
+                    refs: *const u32,
+                    refs_len: usize,
+                    postings: *const u32,
+                    postings_len: usize,
+                    stopped: *const u32,
+                    stopped_len: usize,
+                    answer: &mut Answer,
+                );
+            }
+            Entries {
+                build: |[r, p, s], hashes, lengths, rates, limit| {
+                    let (hash_at, length_at, rate_at) =
+                        (hashes.as_ptr(), lengths.as_ptr(), rates.as_ptr());
+                    let (m, l, n) = (hashes.len(), lengths.len(), rates.len());
+                    answered(|answer| unsafe {
+                        let (refs, postings, stopped) =
+                            (r.as_mut_ptr(), p.as_mut_ptr(), s.as_mut_ptr());
+                        $build(
+                            refs,
+                            r.len(),
+                            postings,
+                            p.len(),
+                            stopped,
+                            s.len(),
+                            hash_at,
+                            m,
+                            length_at,
+                            l,
+                            rate_at,
+                            n,
+                            limit,
+                            answer,
+                        );
+                    })
+                },
+                insert: |[r, p, s], hashes, rate, limit| {
+                    answered(|answer| unsafe {
+                        let (refs, postings, stopped) =
+                            (r.as_mut_ptr(), p.as_mut_ptr(), s.as_mut_ptr());
+                        let (hash_at, m) = (hashes.as_ptr(), hashes.len());
+                        $insert(
+                            refs,
+                            r.len(),
+                            postings,
+                            p.len(),
+                            stopped,
+                            s.len(),
+                            hash_at,
+                            m,
+                            rate,
+                            limit,
+                            answer,
+                        );
+                    })
+                },
+                remove: |[r, p, s], id| {
+                    answered(|answer| unsafe {
+                        let (refs, postings, stopped) =
+                            (r.as_mut_ptr(), p.as_mut_ptr(), s.as_mut_ptr());
+                        $remove(
+                            refs,
+                            r.len(),
+                            postings,
+                            p.len(),
+                            stopped,
+                            s.len(),
+                            id,
+                            answer,
+                        );
+                    })
+                },
+                live_count: |[r, p, s]| {
+                    answered(|answer| unsafe {
+                        let (refs, postings, stopped) = (r.as_ptr(), p.as_ptr(), s.as_ptr());
+                        $live_count(refs, r.len(), postings, p.len(), stopped, s.len(), answer);
+                    })
+                },
+            }
+        };
+    };
+}
+
+fn answered(call: impl FnOnce(&mut Answer)) -> Answer {
+    let mut answer = UNANSWERED;
+    call(&mut answer);
+    answer
+}
+
+entries!(
+    WANG,
+    wang_index_build,
+    wang_index_insert,
+    wang_index_remove,
+    wang_index_live_count
+);
+entries!(
+    PANAKO,
+    panako_index_build,
+    panako_index_insert,
+    panako_index_remove,
+    panako_index_live_count
+);

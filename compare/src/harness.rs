@@ -67,6 +67,18 @@ impl Check {
         }
     }
 
+    /// Likewise, of what can't be told in words: `report` says where the
+    /// sides differ.
+    #[inline(always)]
+    pub fn holds(&mut self, same: bool, report: impl FnOnce() -> String) {
+        self.inputs += 1;
+        if !same {
+            println!("{}: differs at input {}", self.name, self.inputs);
+            print!("{}", report());
+            std::process::exit(1);
+        }
+    }
+
     #[cold]
     #[inline(never)]
     fn differs(&self, input: &[u64], ours: &[u64], rust: &[u64]) -> ! {

@@ -5,14 +5,20 @@
 //! random inputs; `--only` runs the checks whose name contains NAME.
 //! `compare --bench [--only NAME]` measures both sides instead.
 
+mod account;
 mod bench;
+mod calls;
 mod capi;
 mod consolidate;
+mod damage;
+mod depot;
 mod floats;
 mod harness;
 mod hough;
 mod matching;
 mod panako;
+mod store;
+mod trial;
 
 use harness::Run;
 
@@ -47,6 +53,7 @@ fn main() {
     }
     if measure {
         bench::run(run.only.as_deref());
+        depot::run(run.only.as_deref());
         return;
     }
     println!("compare: seed {}, scale {}", run.seed, run.scale);
@@ -55,6 +62,8 @@ fn main() {
     consolidate::run(&mut run);
     hough::run(&mut run);
     panako::run(&mut run);
+    calls::run(&mut run);
+    damage::run(&mut run);
     if run.passed == 0 {
         eprintln!("compare: no check has that name");
         std::process::exit(2);

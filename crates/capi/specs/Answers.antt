@@ -2,19 +2,36 @@
 use mathlib.Core.List.{List, [], _∷_}
 use Prim.Native.Nat.{ℕ}
 use lib.Ieee.{binary32, toBits}
+use Rattle.matching.specs.declared.MatchResult.{MatchResult}
 use Rattle.model.specs.Calls.{Answer, built, stored, removed, count, best, nothing, refused}
-use Rattle.capi.specs.Codes.{flag, twosComplement}
+use Rattle.model.specs.Query.{Query}
+use Rattle.judging.specs.declared.WangMatchConfig.{WangMatchConfig}
+use Rattle.judging.specs.Scheme.{wang}
+use Rattle.querying.specs.Asked.{asked}
+use Rattle.capi.specs.Codes.{single, flag, twosComplement}
 
 abbrev pub caseWords : ℕ → ℕ → List ℕ
 caseWords c value = c ∷ value ∷ 0 ∷ 0 ∷ 0 ∷ 0 ∷ 0 ∷ 0 ∷ []
 
 -- best: id, votes, score bits, prominence bits, frames, ms, time scale bits
+abbrev pub bestWords : ℕ → MatchResult → List ℕ
+bestWords id r =
+    4 ∷ id ∷ r .votes ∷ toBits binary32 (r .score) ∷ toBits binary32 (r .prominence)
+    ∷ twosComplement (r .offset .frames) ∷ twosComplement (r .offset .ms) ∷ toBits binary32 (r .«time_scale») ∷ []
+
 abbrev pub answerWords : Answer → List ℕ
 answerWords built = caseWords 0 0
 answerWords (stored id) = caseWords 1 id
 answerWords (removed b) = caseWords 2 (flag b)
 answerWords (count n) = caseWords 3 n
-answerWords (best id r) = 4 ∷ id ∷ r .votes ∷ toBits binary32 (r .score) ∷ toBits binary32 (r .prominence)
-    ∷ twosComplement (r .offset .frames) ∷ twosComplement (r .offset .ms) ∷ toBits binary32 (r .«time_scale») ∷ []
+answerWords (best id r) = bestWords id r
 answerWords nothing = caseWords 5 0
 answerWords (refused n) = caseWords 6 n
+
+-- ---- a Wang query's settings, as words
+
+abbrev pub wangConfig : ℕ → ℕ → ℕ → ℕ → WangMatchConfig
+wangConfig tolerance votes score prominence = record { «offset_tolerance_frames» = tolerance; «min_votes» = votes; «min_score» = single score; «min_prominence» = single prominence }
+
+abbrev pub wangAsked : List ℕ → ℕ → ℕ → ℕ → ℕ → ℕ → ℕ → Query wang
+wangAsked hashes rate tolerance votes score prominence scratch = asked (wangConfig tolerance votes score prominence) (single rate) hashes scratch

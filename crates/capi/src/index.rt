@@ -1,33 +1,30 @@
-// The calls that build and change a store, and count what is live. The answer's first word is the
-// case, the others its values, unused ones 0.
+// The calls of the two indexes. The answer's first word is the case, the others its values, unused ones 0.
 ghost use mathlib.Core.Path.{_≡_};
-ghost use Prim.Native.Nat.{_≤_};
-ghost use Rattle.model.specs.Run.{runBuild, runInsert, runRemove, runCount};
+ghost use lib.ListN.{length};
+ghost use Rattle.model.specs.Calls.{build, insert, remove, liveCount, query};
+ghost use Rattle.model.specs.Run.{runBuild, runInsert, runRemove, runCount, run};
 ghost use Rattle.soundness.specs.Scan.{words};
-ghost use Rattle.capi.specs.Answers.{answerWords};
+ghost use Rattle.building.specs.Answers.{buildingAnswer};
+ghost use Rattle.insertion.specs.Insert.{insertionAnswer};
+ghost use Rattle.store.specs.Answers.{countAnswer, removalAnswer};
+ghost use Rattle.ranking.specs.Answers.{findingAnswer, scratchAfter};
+ghost use Rattle.judging.specs.Scheme.{wang};
+ghost use Rattle.capi.specs.Answers.{bestWords, answerWords, wangConfig, wangAsked};
 use building::Building;
 use insertion::Insertion;
+use judging::WangMatchConfig;
+use matching::MatchResult;
+use ranking::Finding;
 use store::LiveCount;
 use store::Removal;
+use wang::WangIndex;
 
-fn build(
-    refs: &mut [u32],
-    postings: &mut [u32],
-    stopped: &mut [u32],
-    hashes: &[u32],
-    lengths: &[u32],
-    rates: &[u32],
-    w: usize,
-    limit: u32,
-    answer: &mut [u64; 8],
-)
-    requires { ⌜ (3 ≤ w) × (w ≤ 5) ⌝ }
-    ensures { λ _. ⌜ now (answer .exit) ≡ answerWords ((runBuild w (words (now (refs .entry)) (now (postings .entry)) (now (stopped .entry))) limit (now (hashes .entry)) (now (lengths .entry)) (now (rates .entry))) .0) ⌝ }
-    ensures { λ _. ⌜ now (refs .exit) ≡ (runBuild w (words (now (refs .entry)) (now (postings .entry)) (now (stopped .entry))) limit (now (hashes .entry)) (now (lengths .entry)) (now (rates .entry))) .1 .references ⌝ }
-    ensures { λ _. ⌜ now (postings .exit) ≡ (runBuild w (words (now (refs .entry)) (now (postings .entry)) (now (stopped .entry))) limit (now (hashes .entry)) (now (lengths .entry)) (now (rates .entry))) .1 .postings ⌝ }
-    ensures { λ _. ⌜ now (stopped .exit) ≡ (runBuild w (words (now (refs .entry)) (now (postings .entry)) (now (stopped .entry))) limit (now (hashes .entry)) (now (lengths .entry)) (now (rates .entry))) .1 .stopped ⌝ }
+// ---- answers as words
+
+fn put_building(answer: &mut [u64; 8], r: Building)
+    ensures { λ _. ⌜ now (answer .exit) ≡ answerWords (buildingAnswer r) ⌝ }
 {
-    match building::build(refs, postings, stopped, hashes, lengths, rates, w, limit) {
+    match r {
         Building::Refused(n) => {
             *answer = [6, n as u64, 0, 0, 0, 0, 0, 0];
         }
@@ -37,23 +34,10 @@ fn build(
     }
 }
 
-fn insert(
-    refs: &mut [u32],
-    postings: &mut [u32],
-    stopped: &mut [u32],
-    hashes: &[u32],
-    w: usize,
-    rate: u32,
-    limit: u32,
-    answer: &mut [u64; 8],
-)
-    requires { ⌜ (3 ≤ w) × (w ≤ 5) ⌝ }
-    ensures { λ _. ⌜ now (answer .exit) ≡ answerWords ((runInsert w (words (now (refs .entry)) (now (postings .entry)) (now (stopped .entry))) limit rate (now (hashes .entry))) .0) ⌝ }
-    ensures { λ _. ⌜ now (refs .exit) ≡ (runInsert w (words (now (refs .entry)) (now (postings .entry)) (now (stopped .entry))) limit rate (now (hashes .entry))) .1 .references ⌝ }
-    ensures { λ _. ⌜ now (postings .exit) ≡ (runInsert w (words (now (refs .entry)) (now (postings .entry)) (now (stopped .entry))) limit rate (now (hashes .entry))) .1 .postings ⌝ }
-    ensures { λ _. ⌜ now (stopped .exit) ≡ (runInsert w (words (now (refs .entry)) (now (postings .entry)) (now (stopped .entry))) limit rate (now (hashes .entry))) .1 .stopped ⌝ }
+fn put_insertion(answer: &mut [u64; 8], r: Insertion)
+    ensures { λ _. ⌜ now (answer .exit) ≡ answerWords (insertionAnswer r) ⌝ }
 {
-    match insertion::insert(refs, postings, stopped, hashes, w, rate, limit) {
+    match r {
         Insertion::Refused(n) => {
             *answer = [6, n as u64, 0, 0, 0, 0, 0, 0];
         }
@@ -63,21 +47,10 @@ fn insert(
     }
 }
 
-fn remove(
-    refs: &mut [u32],
-    postings: &mut [u32],
-    stopped: &[u32],
-    w: usize,
-    id: u32,
-    answer: &mut [u64; 8],
-)
-    requires { ⌜ (3 ≤ w) × (w ≤ 5) ⌝ }
-    ensures { λ _. ⌜ now (answer .exit) ≡ answerWords ((runRemove w (words (now (refs .entry)) (now (postings .entry)) (now (stopped .entry))) id) .0) ⌝ }
-    ensures { λ _. ⌜ now (refs .exit) ≡ (runRemove w (words (now (refs .entry)) (now (postings .entry)) (now (stopped .entry))) id) .1 .references ⌝ }
-    ensures { λ _. ⌜ now (postings .exit) ≡ (runRemove w (words (now (refs .entry)) (now (postings .entry)) (now (stopped .entry))) id) .1 .postings ⌝ }
-    ensures { λ _. ⌜ now (stopped .entry) ≡ (runRemove w (words (now (refs .entry)) (now (postings .entry)) (now (stopped .entry))) id) .1 .stopped ⌝ }
+fn put_removal(answer: &mut [u64; 8], r: Removal)
+    ensures { λ _. ⌜ now (answer .exit) ≡ answerWords (removalAnswer r) ⌝ }
 {
-    match store::remove(refs, postings, stopped, w, id) {
+    match r {
         Removal::Refused(n) => {
             *answer = [6, n as u64, 0, 0, 0, 0, 0, 0];
         }
@@ -88,11 +61,10 @@ fn remove(
     }
 }
 
-fn live_count(refs: &[u32], postings: &[u32], stopped: &[u32], w: usize, answer: &mut [u64; 8])
-    requires { ⌜ (3 ≤ w) × (w ≤ 5) ⌝ }
-    ensures { λ _. ⌜ now (answer .exit) ≡ answerWords ((runCount w (words (now (refs .entry)) (now (postings .entry)) (now (stopped .entry)))) .0) ⌝ }
+fn put_count(answer: &mut [u64; 8], r: LiveCount)
+    ensures { λ _. ⌜ now (answer .exit) ≡ answerWords (countAnswer r) ⌝ }
 {
-    match store::live_count(refs, postings, stopped, w) {
+    match r {
         LiveCount::Refused(n) => {
             *answer = [6, n as u64, 0, 0, 0, 0, 0, 0];
         }
@@ -101,6 +73,46 @@ fn live_count(refs: &[u32], postings: &[u32], stopped: &[u32], w: usize, answer:
         }
     }
 }
+
+// The result of a recording.
+fn put_best(answer: &mut [u64; 8], id: u32, m: MatchResult)
+    ensures { λ _. ⌜ now (answer .exit) ≡ bestWords id m ⌝ }
+{
+    let offset = m.offset;
+    let frames = crate::word_of(offset.frames);
+    let ms = crate::word_of(offset.ms);
+    let score = floats::f32_to_bits(m.score) as u64;
+    let prominence = floats::f32_to_bits(m.prominence) as u64;
+    let scale = floats::f32_to_bits(m.time_scale) as u64;
+    *answer = [
+        4,
+        id as u64,
+        m.votes as u64,
+        score,
+        prominence,
+        frames,
+        ms,
+        scale,
+    ];
+}
+
+fn put_finding(answer: &mut [u64; 8], r: Finding)
+    ensures { λ _. ⌜ now (answer .exit) ≡ answerWords (findingAnswer r) ⌝ }
+{
+    match r {
+        Finding::Refused(n) => {
+            *answer = [6, n as u64, 0, 0, 0, 0, 0, 0];
+        }
+        Finding::Nothing => {
+            *answer = [5, 0, 0, 0, 0, 0, 0, 0];
+        }
+        Finding::Best(id, m) => {
+            put_best(answer, id, m);
+        }
+    }
+}
+
+// ---- the calls
 
 #[no_mangle]
 pub extern "C" fn wang_index_build(
@@ -113,21 +125,14 @@ pub extern "C" fn wang_index_build(
     limit: u32,
     answer: &mut [u64; 8],
 )
-    ensures { λ _. ⌜ now (answer .exit) ≡ answerWords ((runBuild 3 (words (now (refs .entry)) (now (postings .entry)) (now (stopped .entry))) limit (now (hashes .entry)) (now (lengths .entry)) (now (rates .entry))) .0) ⌝ }
-    ensures { λ _. ⌜ now (refs .exit) ≡ (runBuild 3 (words (now (refs .entry)) (now (postings .entry)) (now (stopped .entry))) limit (now (hashes .entry)) (now (lengths .entry)) (now (rates .entry))) .1 .references ⌝ }
-    ensures { λ _. ⌜ now (postings .exit) ≡ (runBuild 3 (words (now (refs .entry)) (now (postings .entry)) (now (stopped .entry))) limit (now (hashes .entry)) (now (lengths .entry)) (now (rates .entry))) .1 .postings ⌝ }
-    ensures { λ _. ⌜ now (stopped .exit) ≡ (runBuild 3 (words (now (refs .entry)) (now (postings .entry)) (now (stopped .entry))) limit (now (hashes .entry)) (now (lengths .entry)) (now (rates .entry))) .1 .stopped ⌝ }
+    ensures { λ _. ⌜ now (answer .exit) ≡ answerWords (run wang (words (now (refs .entry)) (now (postings .entry)) (now (stopped .entry))) (build limit (now (hashes .entry)) (now (lengths .entry)) (now (rates .entry))) .0) ⌝ }
+    ensures { λ _. ⌜ now (refs .exit) ≡ run wang (words (now (refs .entry)) (now (postings .entry)) (now (stopped .entry))) (build limit (now (hashes .entry)) (now (lengths .entry)) (now (rates .entry))) .1 .references ⌝ }
+    ensures { λ _. ⌜ now (postings .exit) ≡ run wang (words (now (refs .entry)) (now (postings .entry)) (now (stopped .entry))) (build limit (now (hashes .entry)) (now (lengths .entry)) (now (rates .entry))) .1 .postings ⌝ }
+    ensures { λ _. ⌜ now (stopped .exit) ≡ run wang (words (now (refs .entry)) (now (postings .entry)) (now (stopped .entry))) (build limit (now (hashes .entry)) (now (lengths .entry)) (now (rates .entry))) .1 .stopped ⌝ }
 {
-    build(
-        refs,
-        postings,
-        stopped,
-        hashes,
-        lengths,
-        rates,
-        3,
-        limit,
+    put_building(
         answer,
+        WangIndex::build(refs, postings, stopped, hashes, lengths, rates, limit),
     );
 }
 
@@ -141,12 +146,15 @@ pub extern "C" fn wang_index_insert(
     limit: u32,
     answer: &mut [u64; 8],
 )
-    ensures { λ _. ⌜ now (answer .exit) ≡ answerWords ((runInsert 3 (words (now (refs .entry)) (now (postings .entry)) (now (stopped .entry))) limit rate (now (hashes .entry))) .0) ⌝ }
-    ensures { λ _. ⌜ now (refs .exit) ≡ (runInsert 3 (words (now (refs .entry)) (now (postings .entry)) (now (stopped .entry))) limit rate (now (hashes .entry))) .1 .references ⌝ }
-    ensures { λ _. ⌜ now (postings .exit) ≡ (runInsert 3 (words (now (refs .entry)) (now (postings .entry)) (now (stopped .entry))) limit rate (now (hashes .entry))) .1 .postings ⌝ }
-    ensures { λ _. ⌜ now (stopped .exit) ≡ (runInsert 3 (words (now (refs .entry)) (now (postings .entry)) (now (stopped .entry))) limit rate (now (hashes .entry))) .1 .stopped ⌝ }
+    ensures { λ _. ⌜ now (answer .exit) ≡ answerWords (run wang (words (now (refs .entry)) (now (postings .entry)) (now (stopped .entry))) (insert limit rate (now (hashes .entry))) .0) ⌝ }
+    ensures { λ _. ⌜ now (refs .exit) ≡ run wang (words (now (refs .entry)) (now (postings .entry)) (now (stopped .entry))) (insert limit rate (now (hashes .entry))) .1 .references ⌝ }
+    ensures { λ _. ⌜ now (postings .exit) ≡ run wang (words (now (refs .entry)) (now (postings .entry)) (now (stopped .entry))) (insert limit rate (now (hashes .entry))) .1 .postings ⌝ }
+    ensures { λ _. ⌜ now (stopped .exit) ≡ run wang (words (now (refs .entry)) (now (postings .entry)) (now (stopped .entry))) (insert limit rate (now (hashes .entry))) .1 .stopped ⌝ }
 {
-    insert(refs, postings, stopped, hashes, 3, rate, limit, answer);
+    put_insertion(
+        answer,
+        WangIndex::insert(refs, postings, stopped, hashes, rate, limit),
+    );
 }
 
 #[no_mangle]
@@ -157,12 +165,12 @@ pub extern "C" fn wang_index_remove(
     id: u32,
     answer: &mut [u64; 8],
 )
-    ensures { λ _. ⌜ now (answer .exit) ≡ answerWords ((runRemove 3 (words (now (refs .entry)) (now (postings .entry)) (now (stopped .entry))) id) .0) ⌝ }
-    ensures { λ _. ⌜ now (refs .exit) ≡ (runRemove 3 (words (now (refs .entry)) (now (postings .entry)) (now (stopped .entry))) id) .1 .references ⌝ }
-    ensures { λ _. ⌜ now (postings .exit) ≡ (runRemove 3 (words (now (refs .entry)) (now (postings .entry)) (now (stopped .entry))) id) .1 .postings ⌝ }
-    ensures { λ _. ⌜ now (stopped .exit) ≡ (runRemove 3 (words (now (refs .entry)) (now (postings .entry)) (now (stopped .entry))) id) .1 .stopped ⌝ }
+    ensures { λ _. ⌜ now (answer .exit) ≡ answerWords (run wang (words (now (refs .entry)) (now (postings .entry)) (now (stopped .entry))) (remove id) .0) ⌝ }
+    ensures { λ _. ⌜ now (refs .exit) ≡ run wang (words (now (refs .entry)) (now (postings .entry)) (now (stopped .entry))) (remove id) .1 .references ⌝ }
+    ensures { λ _. ⌜ now (postings .exit) ≡ run wang (words (now (refs .entry)) (now (postings .entry)) (now (stopped .entry))) (remove id) .1 .postings ⌝ }
+    ensures { λ _. ⌜ now (stopped .exit) ≡ run wang (words (now (refs .entry)) (now (postings .entry)) (now (stopped .entry))) (remove id) .1 .stopped ⌝ }
 {
-    remove(refs, postings, stopped, 3, id, answer);
+    put_removal(answer, WangIndex::remove(refs, postings, stopped, id));
 }
 
 #[no_mangle]
@@ -172,9 +180,50 @@ pub extern "C" fn wang_index_live_count(
     stopped: &[u32],
     answer: &mut [u64; 8],
 )
-    ensures { λ _. ⌜ now (answer .exit) ≡ answerWords ((runCount 3 (words (now (refs .entry)) (now (postings .entry)) (now (stopped .entry)))) .0) ⌝ }
+    ensures { λ _. ⌜ now (answer .exit) ≡ answerWords (run wang (words (now (refs .entry)) (now (postings .entry)) (now (stopped .entry))) liveCount .0) ⌝ }
 {
-    live_count(refs, postings, stopped, 3, answer);
+    put_count(answer, WangIndex::live_count(refs, postings, stopped));
+}
+
+fn wang_config(
+    tolerance: u32,
+    min_votes: u32,
+    min_score: u32,
+    min_prominence: u32,
+) -> WangMatchConfig
+    ensures { λ r. ⌜ r ≡ wangConfig tolerance «min_votes» «min_score» «min_prominence» ⌝ }
+{
+    WangMatchConfig {
+        offset_tolerance_frames: tolerance,
+        min_votes,
+        min_score: floats::f32_from_bits(min_score),
+        min_prominence: floats::f32_from_bits(min_prominence),
+    }
+}
+
+#[no_mangle]
+pub extern "C" fn wang_index_query(
+    refs: &[u32],
+    postings: &[u32],
+    stopped: &[u32],
+    scratch: &mut [i64],
+    hashes: &[u32],
+    rate: u32,
+    tolerance: u32,
+    min_votes: u32,
+    min_score: u32,
+    min_prominence: u32,
+    answer: &mut [u64; 8],
+)
+    ensures { λ _. ⌜ now (answer .exit) ≡ answerWords (run wang (words (now (refs .entry)) (now (postings .entry)) (now (stopped .entry))) (query (wangAsked (now (hashes .entry)) rate tolerance «min_votes» «min_score» «min_prominence» (length (now (scratch .entry))))) .0) ⌝ }
+    ensures { λ _. ⌜ now (scratch .exit) ≡ scratchAfter (run wang (words (now (refs .entry)) (now (postings .entry)) (now (stopped .entry))) (query (wangAsked (now (hashes .entry)) rate tolerance «min_votes» «min_score» «min_prominence» (length (now (scratch .entry))))) .0) (now (scratch .entry)) ⌝ }
+{
+    let cfg = wang_config(tolerance, min_votes, min_score, min_prominence);
+    let fps = floats::f32_from_bits(rate);
+    put_finding(
+        answer,
+        WangIndex::query(refs, postings, stopped, scratch, hashes, fps, cfg),
+    );
 }
 
 #[no_mangle]
@@ -188,21 +237,14 @@ pub extern "C" fn panako_index_build(
     limit: u32,
     answer: &mut [u64; 8],
 )
-    ensures { λ _. ⌜ now (answer .exit) ≡ answerWords ((runBuild 5 (words (now (refs .entry)) (now (postings .entry)) (now (stopped .entry))) limit (now (hashes .entry)) (now (lengths .entry)) (now (rates .entry))) .0) ⌝ }
-    ensures { λ _. ⌜ now (refs .exit) ≡ (runBuild 5 (words (now (refs .entry)) (now (postings .entry)) (now (stopped .entry))) limit (now (hashes .entry)) (now (lengths .entry)) (now (rates .entry))) .1 .references ⌝ }
-    ensures { λ _. ⌜ now (postings .exit) ≡ (runBuild 5 (words (now (refs .entry)) (now (postings .entry)) (now (stopped .entry))) limit (now (hashes .entry)) (now (lengths .entry)) (now (rates .entry))) .1 .postings ⌝ }
-    ensures { λ _. ⌜ now (stopped .exit) ≡ (runBuild 5 (words (now (refs .entry)) (now (postings .entry)) (now (stopped .entry))) limit (now (hashes .entry)) (now (lengths .entry)) (now (rates .entry))) .1 .stopped ⌝ }
+    ensures { λ _. ⌜ now (answer .exit) ≡ answerWords (runBuild 5 (words (now (refs .entry)) (now (postings .entry)) (now (stopped .entry))) limit (now (hashes .entry)) (now (lengths .entry)) (now (rates .entry)) .0) ⌝ }
+    ensures { λ _. ⌜ now (refs .exit) ≡ runBuild 5 (words (now (refs .entry)) (now (postings .entry)) (now (stopped .entry))) limit (now (hashes .entry)) (now (lengths .entry)) (now (rates .entry)) .1 .references ⌝ }
+    ensures { λ _. ⌜ now (postings .exit) ≡ runBuild 5 (words (now (refs .entry)) (now (postings .entry)) (now (stopped .entry))) limit (now (hashes .entry)) (now (lengths .entry)) (now (rates .entry)) .1 .postings ⌝ }
+    ensures { λ _. ⌜ now (stopped .exit) ≡ runBuild 5 (words (now (refs .entry)) (now (postings .entry)) (now (stopped .entry))) limit (now (hashes .entry)) (now (lengths .entry)) (now (rates .entry)) .1 .stopped ⌝ }
 {
-    build(
-        refs,
-        postings,
-        stopped,
-        hashes,
-        lengths,
-        rates,
-        5,
-        limit,
+    put_building(
         answer,
+        building::build(refs, postings, stopped, hashes, lengths, rates, 5, limit),
     );
 }
 
@@ -216,12 +258,15 @@ pub extern "C" fn panako_index_insert(
     limit: u32,
     answer: &mut [u64; 8],
 )
-    ensures { λ _. ⌜ now (answer .exit) ≡ answerWords ((runInsert 5 (words (now (refs .entry)) (now (postings .entry)) (now (stopped .entry))) limit rate (now (hashes .entry))) .0) ⌝ }
-    ensures { λ _. ⌜ now (refs .exit) ≡ (runInsert 5 (words (now (refs .entry)) (now (postings .entry)) (now (stopped .entry))) limit rate (now (hashes .entry))) .1 .references ⌝ }
-    ensures { λ _. ⌜ now (postings .exit) ≡ (runInsert 5 (words (now (refs .entry)) (now (postings .entry)) (now (stopped .entry))) limit rate (now (hashes .entry))) .1 .postings ⌝ }
-    ensures { λ _. ⌜ now (stopped .exit) ≡ (runInsert 5 (words (now (refs .entry)) (now (postings .entry)) (now (stopped .entry))) limit rate (now (hashes .entry))) .1 .stopped ⌝ }
+    ensures { λ _. ⌜ now (answer .exit) ≡ answerWords (runInsert 5 (words (now (refs .entry)) (now (postings .entry)) (now (stopped .entry))) limit rate (now (hashes .entry)) .0) ⌝ }
+    ensures { λ _. ⌜ now (refs .exit) ≡ runInsert 5 (words (now (refs .entry)) (now (postings .entry)) (now (stopped .entry))) limit rate (now (hashes .entry)) .1 .references ⌝ }
+    ensures { λ _. ⌜ now (postings .exit) ≡ runInsert 5 (words (now (refs .entry)) (now (postings .entry)) (now (stopped .entry))) limit rate (now (hashes .entry)) .1 .postings ⌝ }
+    ensures { λ _. ⌜ now (stopped .exit) ≡ runInsert 5 (words (now (refs .entry)) (now (postings .entry)) (now (stopped .entry))) limit rate (now (hashes .entry)) .1 .stopped ⌝ }
 {
-    insert(refs, postings, stopped, hashes, 5, rate, limit, answer);
+    put_insertion(
+        answer,
+        insertion::insert(refs, postings, stopped, hashes, 5, rate, limit),
+    );
 }
 
 #[no_mangle]
@@ -232,12 +277,12 @@ pub extern "C" fn panako_index_remove(
     id: u32,
     answer: &mut [u64; 8],
 )
-    ensures { λ _. ⌜ now (answer .exit) ≡ answerWords ((runRemove 5 (words (now (refs .entry)) (now (postings .entry)) (now (stopped .entry))) id) .0) ⌝ }
-    ensures { λ _. ⌜ now (refs .exit) ≡ (runRemove 5 (words (now (refs .entry)) (now (postings .entry)) (now (stopped .entry))) id) .1 .references ⌝ }
-    ensures { λ _. ⌜ now (postings .exit) ≡ (runRemove 5 (words (now (refs .entry)) (now (postings .entry)) (now (stopped .entry))) id) .1 .postings ⌝ }
-    ensures { λ _. ⌜ now (stopped .exit) ≡ (runRemove 5 (words (now (refs .entry)) (now (postings .entry)) (now (stopped .entry))) id) .1 .stopped ⌝ }
+    ensures { λ _. ⌜ now (answer .exit) ≡ answerWords (runRemove 5 (words (now (refs .entry)) (now (postings .entry)) (now (stopped .entry))) id .0) ⌝ }
+    ensures { λ _. ⌜ now (refs .exit) ≡ runRemove 5 (words (now (refs .entry)) (now (postings .entry)) (now (stopped .entry))) id .1 .references ⌝ }
+    ensures { λ _. ⌜ now (postings .exit) ≡ runRemove 5 (words (now (refs .entry)) (now (postings .entry)) (now (stopped .entry))) id .1 .postings ⌝ }
+    ensures { λ _. ⌜ now (stopped .exit) ≡ runRemove 5 (words (now (refs .entry)) (now (postings .entry)) (now (stopped .entry))) id .1 .stopped ⌝ }
 {
-    remove(refs, postings, stopped, 5, id, answer);
+    put_removal(answer, store::remove(refs, postings, stopped, 5, id));
 }
 
 #[no_mangle]
@@ -247,7 +292,7 @@ pub extern "C" fn panako_index_live_count(
     stopped: &[u32],
     answer: &mut [u64; 8],
 )
-    ensures { λ _. ⌜ now (answer .exit) ≡ answerWords ((runCount 5 (words (now (refs .entry)) (now (postings .entry)) (now (stopped .entry)))) .0) ⌝ }
+    ensures { λ _. ⌜ now (answer .exit) ≡ answerWords (runCount 5 (words (now (refs .entry)) (now (postings .entry)) (now (stopped .entry))) .0) ⌝ }
 {
-    live_count(refs, postings, stopped, 5, answer);
+    put_count(answer, store::live_count(refs, postings, stopped, 5));
 }

@@ -1,7 +1,7 @@
 -- What the model's insertion leaves of postings and stopped keys, from the places of the new hashes. Assumes nothing.
 use mathlib.Core.Path.{_≡_, refl, sym, ap, _∙_}
 use mathlib.Core.Bool.{Bool, true, false, not, and-false}
-use mathlib.Core.List.{List, [], _∷_, map}
+use mathlib.Core.List.{List, [], _∷_, map, map-append}
 use Prim.Native.Nat.{ℕ, zero, suc, _+_, _-_, _≤_}
 use native.Mathlib.Omega.{arith}
 use lib.ListN.{length, getD, length-append, length-map}
@@ -21,7 +21,6 @@ use Rattle.model.specs.Words.{postingWords}
 use Rattle.model.proofs.Parts.{ascending-stopKeys}
 use Rattle.model.proofs.Agree.{stoppedAfter-is}
 use Rattle.merging.specs.Order.{upTo, unstoppedAt, taken, ordered, times, OverKeys, entryOf, entriesOf, without}
-use Rattle.merging.proofs.Taken.{map-append}
 use Rattle.merging.proofs.Ordered.{under-ordered}
 use Rattle.insertion.proofs.Times.{some-kept, keep-keep, times-map, member-placeAll, ascending-placeAll, placeAll-same, keep-placeAll}
 

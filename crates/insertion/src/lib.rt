@@ -7,7 +7,7 @@ ghost use lib.ListN.{length, getD, take};
 ghost use Rattle.lists.specs.Lists.{flat};
 ghost use Rattle.lists.specs.Keys.{placeAll};
 ghost use Rattle.lists.specs.Entries.{padded};
-ghost use Rattle.model.specs.Fingerprints.{hashesOf, malformed, referenceMost};
+ghost use Rattle.model.specs.Fingerprints.{hashesOf};
 ghost use Rattle.model.specs.Rows.{isWang, largestAnchor, canonical};
 ghost use Rattle.model.specs.Soundness.{rowWord};
 ghost use Rattle.model.specs.Run.{runInsert};
@@ -131,18 +131,6 @@ fn write_recording(
     id as u32
 }
 
-// Whether the words are no whole hashes, or too many.
-fn is_malformed(hashes: &[u32], w: usize) -> bool
-    requires { ⌜ 3 ≤ w ⌝ }
-    ensures { λ r. ⌜ r ≡ malformed w referenceMost (now (hashes .entry)) ⌝ }
-{
-    let v = w - 1;
-    if hashes.len() % v != 0 {
-        return true;
-    }
-    8192 < hashes.len() / v
-}
-
 // Whether there is neither a vacant id nor a row that is not in use.
 fn is_full(refs: &[u32]) -> bool
     requires { ⌜ 4 ≤ length (now refs) ⌝ }
@@ -209,7 +197,7 @@ pub fn insert(
     if n != 0 {
         return Insertion::Refused(n);
     }
-    if is_malformed(hashes, w) {
+    if rows::is_malformed(hashes, w, 8192) {
         return Insertion::Refused(3);
     }
     if is_full(refs) {

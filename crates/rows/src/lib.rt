@@ -1,11 +1,11 @@
-// The references' words: the header, rows and vacant entries; and what a recording's row says.
+// The references' words: the header, rows and vacant entries; what a fingerprint's words say.
 ghost use mathlib.Core.Path.{_≡_};
 ghost use mathlib.Core.Bool.{cond};
 ghost use mathlib.Core.List.{map};
 ghost use Prim.Native.Nat.{_+_, _*_, _<_, _≤_, max};
 ghost use lib.ListN.{length};
 ghost use Rattle.lists.specs.Entries.{entries};
-ghost use Rattle.model.specs.Fingerprints.{hashOf, hashesOf};
+ghost use Rattle.model.specs.Fingerprints.{hashOf, hashesOf, malformed};
 ghost use Rattle.model.specs.Rows.{isWang, largestAnchor, canonical};
 ghost use Rattle.model.specs.Soundness.{rowWord};
 ghost use Rattle.rows.specs.References.{CountsOf, headerPut, rowPut, entryPut};
@@ -117,4 +117,16 @@ pub fn row_max(hashes: &[u32], w: usize) -> u32
         return largest_anchor(hashes, 2, hashes.len() / 2);
     }
     0
+}
+
+// Whether the words are no whole hashes, or more than `most` of them.
+pub fn is_malformed(hashes: &[u32], w: usize, most: usize) -> bool
+    requires { ⌜ 3 ≤ w ⌝ }
+    ensures { λ r. ⌜ r ≡ malformed w most (now (hashes .entry)) ⌝ }
+{
+    let v = w - 1;
+    if hashes.len() % v != 0 {
+        return true;
+    }
+    most < hashes.len() / v
 }

@@ -15,6 +15,20 @@ pub mod matching;
 /// The reference's private functions; see `matching/haitsma.rs`.
 pub use matching::HaitsmaMatcher as Reach;
 
+/// The indexes whose content can be reached; see `matching/content.rs`.
+pub mod open {
+    pub type WangIndex = <super::Reach as super::Open>::WangIndex;
+    pub type PanakoIndex = <super::Reach as super::Open>::PanakoIndex;
+    pub type Content<P> = <super::Reach as super::Open>::Content<P>;
+}
+
+/// `matching` keeps its modules to itself; types go out by this trait.
+pub trait Open {
+    type WangIndex;
+    type PanakoIndex;
+    type Content<P>;
+}
+
 pub(crate) mod dsp {
     pub mod peaks {
         #[derive(Copy, Clone, Debug)]

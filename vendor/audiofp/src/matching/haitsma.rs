@@ -9,6 +9,21 @@ use super::{PanakoMatchConfig, maps, panako};
 use crate::classical::WangHash;
 use alloc::vec::Vec;
 
+/// `index.rs` and `content.rs` in one, as `build.rs` wrote them: the indexes,
+/// and what they hold.
+mod open {
+    include!(concat!(env!("OUT_DIR"), "/index.rs"));
+}
+
+// What `index.rs` takes from the module around it.
+use super::{MatchResult, below_threshold, calibration, haitsma};
+
+impl crate::Open for HaitsmaMatcher {
+    type WangIndex = open::WangIndex;
+    type PanakoIndex = open::PanakoIndex;
+    type Content<P> = open::Content<P>;
+}
+
 /// A Hough accumulator: `((scale bin, offset), votes)`, sorted.
 type Bins<'a> = &'a [((u32, i64), u32)];
 

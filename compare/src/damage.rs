@@ -1,0 +1,247 @@
+//! Stores with words that don't belong there: refused with 2 exactly where
+//! the account finds them unsound.
+
+use crate::account::Call;
+use crate::calls::{RATE, some_hashes, some_store};
+use crate::harness::{Check, Rng, Run};
+use crate::store::{HEADER, Index, Panako, ROW, Sizes, Store, Wang};
+use crate::trial::{Met, Trial};
+
+pub fn run(run: &mut Run) {
+    run.check("wang_index, every tiny store", tiny_stores::<Wang>);
+    run.check("panako_index, every tiny store", tiny_stores::<Panako>);
+    run.check("wang_index, one word damaged", one_word::<Wang>);
+    run.check("panako_index, one word damaged", one_word::<Panako>);
+    run.check("wang_index, words damaged", some_words::<Wang>);
+    run.check("panako_index, words damaged", some_words::<Panako>);
+}
+
+const KEYS: [u32; 5] = [3, 5, 6, 9, u32::MAX];
+
+/// Every call, one after another: they are refused, or do what they do on a
+/// sound store.
+fn calls_on<I: Index>(check: &mut Check, met: &mut Met, store: &Store) {
+    let rng = &mut check.rng;
+    let count = rng.below(3) as usize;
+    let hashes = some_hashes::<I>(rng, count, &KEYS);
+    let id = rng.below(store.rows().len() as u64) as u32;
+    let (rate, limit) = (RATE, rng.pick(&[0, 1, 2, 100]));
+    let calls = [
+        Call::LiveCount,
+        Call::Remove { id },
+        Call::Insert {
+            hashes: hashes.clone(),
+            rate,
+            limit,
+        },
+        // Overwrites any content.
+        Call::Build {
+            hashes,
+            lengths: vec![count as u32],
+            rates: vec![rate],
+            limit,
+        },
+    ];
+    let mut trial = Trial::<I>::new(store.clone());
+    for call in calls {
+        trial.call(check, met, call);
+    }
+}
+
+/// Every store of one row, one posting and one stopped key whose words are of
+/// a short list; and of two of each, the list shorter still.
+fn tiny_stores<I: Index>(check: &mut Check) {
+    const NAN: u32 = 0x7FC0_0000;
+    let mut met = Met::default();
+    let any: &[u32] = &[0, 1, NAN];
+    every_store::<I>(check, &mut met, 1, [any, any, any]);
+    every_store::<I>(check, &mut met, 2, [&[0, 1, 2], &[0, NAN], &[0, 1]]);
+    assert!(met.cases[3] > 0 && met.refusals[2] > 0);
+}
+
+/// Every store of `size` rows, postings and stopped keys with the header, the
+/// rates and other words of these lists.
+fn every_store<I: Index>(check: &mut Check, met: &mut Met, size: usize, lists: [&[u32]; 3]) {
+    let [counts, rates, others] = lists;
+    let mut store = Store::zeroed::<I>(Sizes::new(size, size, size));
+    let mut places: Vec<&[u32]> = Vec::new();
+    for place in 0..store.refs.len() {
+        places.push(match place.checked_sub(HEADER) {
+            None => counts,
+            Some(word) if word % ROW == 0 => rates,
+            Some(_) => others,
+        });
+    }
+    // Of a posting the times after the anchor matter nowhere.
+    let posting = (0..I::WIDTH).map(|word| if word < 3 { others } else { &[0] });
+    places.extend(posting.cycle().take(store.postings.len()));
+    places.resize(places.len() + size, others);
+    let mut digits = vec![0; places.len()];
+    loop {
+        let words = digits.iter().zip(&places).map(|(&digit, list)| list[digit]);
+        let all = store.lend().into_iter().flatten();
+        all.zip(words).for_each(|(word, value)| *word = value);
+        let mut trial = Trial::<I>::new(store.clone());
+        trial.call(check, met, Call::LiveCount);
+        if trial.is_sound() {
+            calls_on::<I>(check, met, &store);
+        }
+        let Some(place) = (0..digits.len()).find(|&i| digits[i] + 1 < places[i].len()) else {
+            return;
+        };
+        digits[..place].fill(0);
+        digits[place] += 1;
+    }
+}
+
+/// A sound store, most often with dead rows, stopped keys and free rows.
+fn some_start<I: Index>(rng: &mut Rng, sizes: Sizes) -> Store {
+    loop {
+        let store = some_store::<I>(rng, sizes, &KEYS);
+        let [n, v, p, k] = store.header();
+        let filled = v > 0 && p > 1 && k > 0 && (n as usize) < sizes.rows;
+        if filled || rng.below(16) == 0 {
+            return store;
+        }
+    }
+}
+
+/// Values that a word is set to: ends and NaNs, sizes, and all that stands in
+/// the store with its neighbours.
+fn values<I: Index>(store: &Store) -> Vec<u32> {
+    let fixed = [
+        0,
+        1,
+        2,
+        0x7F80_0000,
+        0x7F80_0001,
+        0x7FBF_FFFF,
+        0x7FC0_0000,
+        0x7FC0_0001,
+        0xFFC0_0000,
+        0x8000_0000,
+        u32::MAX,
+    ];
+    let sizes = store.sizes::<I>().expect("the lengths are listed");
+    let sizes = [sizes.rows, sizes.postings, sizes.stopped].map(|size| size as u32);
+    let words = store.slices().concat();
+    let near = |word: u32| [word.wrapping_sub(1), word, word.wrapping_add(1)];
+    let mut values: Vec<u32> = words
+        .into_iter()
+        .chain(sizes)
+        .flat_map(near)
+        .chain(fixed)
+        .collect();
+    values.sort_unstable();
+    values.dedup();
+    values
+}
+
+fn set(store: &mut Store, mut place: usize, value: u32) {
+    for slice in store.lend() {
+        match slice.get_mut(place) {
+            Some(word) => {
+                *word = value;
+                return;
+            }
+            None => place -= slice.len(),
+        }
+    }
+}
+
+/// Each word of some stores, set to each value.
+fn one_word<I: Index>(check: &mut Check) {
+    let mut met = Met::default();
+    for turn in check.times(60) {
+        let sizes = match turn % 3 {
+            0 => Sizes::new(3, 4, 2),
+            1 => Sizes::new(4, 6, 3),
+            _ => Sizes::new(5, 5, 4),
+        };
+        let store = some_start::<I>(&mut check.rng, sizes);
+        let values = values::<I>(&store);
+        for place in 0..store.slices().concat().len() {
+            for &value in &values {
+                let mut damaged = store.clone();
+                set(&mut damaged, place, value);
+                calls_on::<I>(check, &mut met, &damaged);
+            }
+        }
+    }
+    assert!(met.cases[3] > 0 && met.refusals[2] > 0);
+}
+
+/// Up to three words of stores small and larger.
+fn some_words<I: Index>(check: &mut Check) {
+    let mut met = Met::default();
+    let mut some = |check: &mut Check, sizes: [u64; 3], keys: &[u32]| {
+        let rng = &mut check.rng;
+        let [rows, postings, stopped] = sizes.map(|most| 1 + rng.below(most) as usize);
+        let store = some_store::<I>(rng, Sizes::new(rows, postings, stopped), keys);
+        let values = values::<I>(&store);
+        let words = store.slices().concat().len() as u64;
+        for _ in 0..20 {
+            let rng = &mut check.rng;
+            let mut damaged = store.clone();
+            for _ in 0..1 + rng.below(3) {
+                // The header as often as all the rest.
+                let reach = rng.pick(&[HEADER as u64, words]);
+                let place = rng.below(reach) as usize;
+                let value = rng.pick(&values);
+                set(&mut damaged, place, value);
+            }
+            calls_on::<I>(check, &mut met, &damaged);
+        }
+    };
+    for _ in check.times(4000) {
+        some(check, [4, 8, 4], &KEYS);
+    }
+    let keys: Vec<u32> = (0..200).map(|_| check.rng.sized(32) as u32).collect();
+    for _ in check.times(400) {
+        some(check, [60, 300, 80], &keys);
+    }
+    for _ in check.times(20) {
+        some(check, [4096, 300, 80], &keys);
+    }
+    large_store::<I>(check, &mut met);
+    assert!(met.cases[3] > 0 && met.refusals[2] > 0);
+}
+
+/// One word of the largest store, mostly where its used parts end.
+fn large_store<I: Index>(check: &mut Check, met: &mut Met) {
+    let keys: Vec<u32> = (0..300_000).map(|_| check.rng.next() as u32).collect();
+    let store = some_store::<I>(&mut check.rng, Sizes::MOST, &keys);
+    let [n, v, p, k] = store.header().map(|count| count as usize);
+    let lengths = store.slices().map(<[u32]>::len);
+    let ends = [
+        HEADER + ROW * n,
+        HEADER + ROW * v,
+        lengths[0],
+        lengths[0] + I::WIDTH * p,
+        lengths[0] + lengths[1],
+        lengths[0] + lengths[1] + k,
+        lengths.iter().sum(),
+    ];
+    let words = store.slices().concat();
+    for _ in check.times(4) {
+        for end in ends {
+            let rng = &mut check.rng;
+            let place = match rng.below(4) {
+                0 => rng.below(words.len() as u64) as usize,
+                _ => end.saturating_sub(1 + rng.below(2 * I::WIDTH as u64) as usize),
+            };
+            let place = place.max(1);
+            let word = words[place];
+            let value = match rng.below(4) {
+                0 => word.wrapping_add(1),
+                1 => word.wrapping_sub(1),
+                2 => words[place - 1],
+                _ => u32::MAX,
+            };
+            let mut damaged = store.clone();
+            set(&mut damaged, place, value);
+            let mut trial = Trial::<I>::new(damaged);
+            trial.call(check, met, Call::LiveCount);
+        }
+    }
+}

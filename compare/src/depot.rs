@@ -1,0 +1,229 @@
+//! The calls on lent stores, measured beside the reference's: a school card,
+//! and depots of several sizes. Both sides hold the same all along.
+
+use crate::account::{built, counted, removed, stored};
+use crate::calls::RATE;
+use crate::harness::Rng;
+use crate::store::{Index, Panako, Sizes, Store, Wang, write};
+use std::hint::black_box;
+use std::time::Duration;
+
+/// The default of the reference's settings.
+const LIMIT: u32 = 100;
+
+/// `lists` recordings of `hashes` hashes with keys of `bits` bits.
+#[derive(Clone, Copy)]
+struct Card {
+    name: &'static str,
+    lists: usize,
+    hashes: usize,
+    bits: u32,
+    sizes: Sizes,
+    /// Calls that are timed together, and turns.
+    batch: usize,
+    turns: usize,
+}
+
+pub fn run(only: Option<&str>) {
+    let depot = |name, lists, bits, postings| Card {
+        name,
+        lists,
+        hashes: 3000,
+        bits,
+        sizes: Sizes::new(512, postings, 65_536),
+        batch: 1,
+        turns: 41,
+    };
+    let cards = [
+        Card {
+            name: "30 × 30, 22 bits",
+            lists: 30,
+            hashes: 30,
+            bits: 22,
+            sizes: Sizes::new(32, 1024, 256),
+            batch: 30,
+            turns: 300,
+        },
+        depot("75 × 3,000, 22 bits", 75, 22, 1 << 18),
+        depot("150 × 3,000, 22 bits", 150, 22, 1 << 19),
+        depot("300 × 3,000, 22 bits", 300, 22, 1 << 20),
+        depot("75 × 3,000, 17 bits", 75, 17, 1 << 18),
+        depot("150 × 3,000, 17 bits", 150, 17, 1 << 19),
+        depot("300 × 3,000, 17 bits", 300, 17, 1 << 20),
+    ];
+    let mut rows = Vec::new();
+    for card in cards {
+        let asked = |index: &str| only.is_none_or(|only| index.contains(only));
+        if asked("WangIndex") {
+            rows.push(("WangIndex", card.name, measure::<Wang>(card)));
+        }
+        if asked("PanakoIndex") {
+            rows.push(("PanakoIndex", card.name, measure::<Panako>(card)));
+        }
+    }
+    if rows.is_empty() {
+        return;
+    }
+    println!();
+    println!("| scan | lists | ours, ns a posting | plain read, ns a posting | ours / read |");
+    println!("|---|---|---|---|---|");
+    for (index, name, times) in &rows {
+        let [ours, read] = times.scan.map(|ns| ns / times.postings);
+        println!(
+            "| `{index}::live_count` | {name} | {ours:.2} | {read:.2} | {:.2} |",
+            ours / read
+        );
+    }
+    println!();
+    println!("Each as: ours, µs / Rust, µs = ratio (ratio without the scan).");
+    println!();
+    println!("| index | lists | `remove` | `insert` | `build` |");
+    println!("|---|---|---|---|---|");
+    for (index, name, times) in &rows {
+        let micros = |ns: f64| format!("{:.*}", if ns < 1e5 { 2 } else { 0 }, ns / 1e3);
+        let plain = |[ours, rust]: [f64; 2]| {
+            format!("{} / {} = {:.2}", micros(ours), micros(rust), ours / rust)
+        };
+        let scanned = |[ours, rust]: [f64; 2]| {
+            let beyond = (ours - times.scan[0]) / rust;
+            format!("{} ({beyond:.2})", plain([ours, rust]))
+        };
+        println!(
+            "| `{index}` | {name} | {} | {} | {} |",
+            scanned(times.remove),
+            scanned(times.insert),
+            plain(times.build)
+        );
+    }
+}
+
+/// Nanoseconds a call, ours and the other's: the least of all turns.
+struct Times {
+    postings: f64,
+    scan: [f64; 2],
+    remove: [f64; 2],
+    insert: [f64; 2],
+    build: [f64; 2],
+}
+
+/// Time that this thread was given, so that others on the machine count
+/// little.
+fn thread_time() -> Duration {
+    const THREAD_CPUTIME: i32 = 3;
+    unsafe extern "C" {
+        fn clock_gettime(clock: i32, time: *mut [i64; 2]) -> i32;
+    }
+    let mut time = [0; 2];
+    // SAFETY: on x86-64 Linux a time is two words.
+    let status = unsafe { clock_gettime(THREAD_CPUTIME, &mut time) };
+    assert_eq!(status, 0, "the clock is there");
+    Duration::new(time[0] as u64, time[1] as u32)
+}
+
+/// Keeps the least time of one of `calls` calls.
+fn timed<T>(least: &mut f64, calls: usize, work: impl FnOnce() -> T) -> T {
+    let began = thread_time();
+    let result = black_box(work());
+    let took = (thread_time() - began).as_nanos() as f64 / calls as f64;
+    *least = least.min(took);
+    result
+}
+
+/// A list as it is extracted: anchors ascend.
+fn list<I: Index>(rng: &mut Rng, card: Card) -> Vec<u32> {
+    let hash = |i: usize| {
+        let anchor = 6 * i as u32 + rng.below(6) as u32;
+        let times = [anchor, anchor + 5, anchor + 20];
+        let key = rng.below(1 << card.bits) as u32;
+        [key].into_iter().chain(times).take(I::HASH)
+    };
+    (0..card.hashes).flat_map(hash).collect()
+}
+
+fn sum(slices: [&[u32]; 3]) -> u32 {
+    let add = |sum: u32, &word: &u32| sum.wrapping_add(word);
+    slices
+        .into_iter()
+        .fold(0, |sum, words| words.iter().fold(sum, add))
+}
+
+fn measure<I: Index>(card: Card) -> Times {
+    let rng = &mut Rng(1);
+    let lists: Vec<Vec<u32>> = (0..card.lists).map(|_| list::<I>(rng, card)).collect();
+    let fingerprints: Vec<_> = lists
+        .iter()
+        .map(|list| I::fingerprint(list, RATE))
+        .collect();
+    let all = lists.concat();
+    let lengths = vec![card.hashes as u32; card.lists];
+    let rates = vec![RATE; card.lists];
+    let entries = I::ENTRIES;
+    let mut store = Store::zeroed::<I>(card.sizes);
+    let mut index = I::build(&[], LIMIT);
+    let least = [f64::INFINITY; 2];
+    let mut times = Times {
+        postings: 0.0,
+        scan: least,
+        remove: least,
+        insert: least,
+        build: least,
+    };
+    for _ in 0..card.turns.div_ceil(5) {
+        let answer = timed(&mut times.build[0], 1, || {
+            (entries.build)(store.lend(), &all, &lengths, &rates, LIMIT)
+        });
+        assert_eq!(answer, built());
+        index = timed(&mut times.build[1], 1, || I::build(&fingerprints, LIMIT));
+    }
+    let same = |store: &Store, index: &I| {
+        assert!(
+            *store == write::<I>(&index.content(), card.sizes),
+            "both sides hold the same"
+        );
+    };
+    same(&store, &index);
+    times.postings = store.header()[2].into();
+    for _ in 0..card.turns {
+        for _ in 0..card.batch {
+            let answer = timed(&mut times.scan[0], card.batch, || {
+                (0..card.batch).fold(counted(0), |_, _| {
+                    (entries.live_count)(black_box(store.slices()))
+                })
+            });
+            assert_eq!(answer, counted(card.lists));
+            timed(&mut times.scan[1], card.batch, || {
+                (0..card.batch).fold(0, |all: u32, _| {
+                    all.wrapping_add(sum(black_box(store.slices())))
+                })
+            });
+        }
+        let first = rng.below(card.lists as u64) as usize;
+        let ids: Vec<usize> = (0..card.batch)
+            .map(|i| (first + 7 * i) % card.lists)
+            .collect();
+        timed(&mut times.remove[0], card.batch, || {
+            for &id in &ids {
+                let answer = (entries.remove)(store.lend(), id as u32);
+                assert_eq!(answer, removed(true));
+            }
+        });
+        timed(&mut times.remove[1], card.batch, || {
+            for &id in &ids {
+                assert!(index.remove(id));
+            }
+        });
+        timed(&mut times.insert[0], card.batch, || {
+            for &id in ids.iter().rev() {
+                let answer = (entries.insert)(store.lend(), &lists[id], RATE, LIMIT);
+                assert_eq!(answer, stored(id as u32));
+            }
+        });
+        timed(&mut times.insert[1], card.batch, || {
+            for &id in ids.iter().rev() {
+                assert_eq!(index.insert(&fingerprints[id], LIMIT), id);
+            }
+        });
+    }
+    same(&store, &index);
+    times
+}

@@ -1,0 +1,277 @@
+//! The lent store beside the reference's index: the calls of both sides, and
+//! document 01's layout, written from what the reference's index holds.
+
+use crate::capi::{self, Entries, Lent};
+use crate::harness::word32;
+use audiofp::classical::{PanakoFingerprint, PanakoHash, WangFingerprint, WangHash};
+use audiofp::open::{self, PanakoIndex, WangIndex};
+
+/// What the reference's index of one kind holds.
+pub type Content<I> = open::Content<<I as Index>::Posting>;
+
+/// R, P and K: rows, postings and stopped keys that a store has room for.
+#[derive(Clone, Copy, Debug, PartialEq, Eq)]
+pub struct Sizes {
+    pub rows: usize,
+    pub postings: usize,
+    pub stopped: usize,
+}
+
+impl Sizes {
+    pub const MOST: Self = Self {
+        rows: 4096,
+        postings: 1_048_576,
+        stopped: 65_536,
+    };
+
+    pub fn new(rows: usize, postings: usize, stopped: usize) -> Self {
+        Self {
+            rows,
+            postings,
+            stopped,
+        }
+    }
+}
+
+/// The words of a store.
+#[derive(Clone, Debug, Default, PartialEq, Eq)]
+pub struct Store {
+    pub refs: Vec<u32>,
+    pub postings: Vec<u32>,
+    pub stopped: Vec<u32>,
+}
+
+/// Words before the rows, and of a row.
+pub const HEADER: usize = 4;
+pub const ROW: usize = 4;
+
+impl Store {
+    pub fn zeroed<I: Index>(sizes: Sizes) -> Self {
+        Self {
+            refs: vec![0; HEADER + ROW * sizes.rows],
+            postings: vec![0; I::WIDTH * sizes.postings],
+            stopped: vec![0; sizes.stopped],
+        }
+    }
+
+    /// R, P and K, where all three lengths are listed ones.
+    pub fn sizes<I: Index>(&self) -> Option<Sizes> {
+        let whole = |words: usize, width: usize, most: usize| {
+            let count = words / width;
+            (words % width == 0 && (1..=most).contains(&count)).then_some(count)
+        };
+        let most = Sizes::MOST;
+        Some(Sizes {
+            rows: whole(self.refs.len().checked_sub(HEADER)?, ROW, most.rows)?,
+            postings: whole(self.postings.len(), I::WIDTH, most.postings)?,
+            stopped: whole(self.stopped.len(), 1, most.stopped)?,
+        })
+    }
+
+    /// Rows n, vacant v, postings p, stopped k.
+    pub fn header(&self) -> [u32; HEADER] {
+        std::array::from_fn(|i| self.refs[i])
+    }
+
+    pub fn rows(&self) -> impl ExactSizeIterator<Item = &[u32]> + DoubleEndedIterator {
+        self.refs[HEADER..].chunks_exact(ROW)
+    }
+
+    pub fn slices(&self) -> [&[u32]; 3] {
+        [&self.refs, &self.postings, &self.stopped]
+    }
+
+    pub fn lend(&mut self) -> Lent<'_> {
+        [&mut self.refs, &mut self.postings, &mut self.stopped]
+    }
+}
+
+/// A posting as the reference keeps it under its key.
+pub trait Posting: Copy {
+    /// The posting's words after its key.
+    fn words(self) -> impl AsRef<[u32]>;
+    fn of(words: &[u32]) -> Self;
+}
+
+impl Posting for (u32, u32) {
+    fn words(self) -> impl AsRef<[u32]> {
+        <[u32; 2]>::from(self)
+    }
+
+    fn of(words: &[u32]) -> Self {
+        (words[0], words[1])
+    }
+}
+
+impl Posting for (u32, u32, u32, u32) {
+    fn words(self) -> impl AsRef<[u32]> {
+        <[u32; 4]>::from(self)
+    }
+
+    fn of(words: &[u32]) -> Self {
+        (words[0], words[1], words[2], words[3])
+    }
+}
+
+/// The index of one kind: the reference's, and the library's calls.
+pub trait Index: Sized {
+    const ENTRIES: Entries;
+    /// Words of a posting. A hash has one less: it has no id.
+    const WIDTH: usize;
+    const HASH: usize = Self::WIDTH - 1;
+    /// Whether rows keep their largest anchor.
+    const HAS_R_MAX: bool;
+    type Posting: Posting;
+    type Fingerprint;
+
+    fn fingerprint(hashes: &[u32], rate: u32) -> Self::Fingerprint;
+    fn build(refs: &[Self::Fingerprint], limit: u32) -> Self;
+    fn insert(&mut self, fingerprint: &Self::Fingerprint, limit: u32) -> usize;
+    fn remove(&mut self, id: usize) -> bool;
+    fn live_count(&self) -> usize;
+
+    fn content(&self) -> Content<Self>;
+    fn of(content: Content<Self>) -> Self;
+    fn stopped_count(&self) -> usize;
+    fn is_stopped(&self, key: u32) -> bool;
+}
+
+macro_rules! calls_of {
+    ($index:ty) => {
+        fn build(refs: &[Self::Fingerprint], limit: u32) -> Self {
+            Self(<$index>::build(refs, limit))
+        }
+
+        fn insert(&mut self, fingerprint: &Self::Fingerprint, limit: u32) -> usize {
+            self.0.insert(fingerprint, limit)
+        }
+
+        fn remove(&mut self, id: usize) -> bool {
+            self.0.remove(id)
+        }
+
+        fn live_count(&self) -> usize {
+            self.0.live_count()
+        }
+
+        fn content(&self) -> Content<Self> {
+            self.0.content()
+        }
+
+        fn of(content: Content<Self>) -> Self {
+            Self(<$index>::of(content))
+        }
+
+        fn stopped_count(&self) -> usize {
+            self.0.stopped_count()
+        }
+
+        fn is_stopped(&self, key: u32) -> bool {
+            self.0.is_stopped(key)
+        }
+    };
+}
+
+pub struct Wang(WangIndex);
+pub struct Panako(PanakoIndex);
+
+impl Index for Wang {
+    const ENTRIES: Entries = capi::WANG;
+    const WIDTH: usize = 3;
+    const HAS_R_MAX: bool = true;
+    type Posting = (u32, u32);
+    type Fingerprint = WangFingerprint;
+
+    fn fingerprint(hashes: &[u32], rate: u32) -> WangFingerprint {
+        let hashes = hashes.chunks_exact(Self::HASH).map(|words| WangHash {
+            hash: words[0],
+            t_anchor: words[1],
+        });
+        WangFingerprint {
+            hashes: hashes.collect(),
+            frames_per_sec: f32::from_bits(rate),
+        }
+    }
+
+    calls_of!(WangIndex);
+}
+
+impl Index for Panako {
+    const ENTRIES: Entries = capi::PANAKO;
+    const WIDTH: usize = 5;
+    const HAS_R_MAX: bool = false;
+    type Posting = (u32, u32, u32, u32);
+    type Fingerprint = PanakoFingerprint;
+
+    fn fingerprint(hashes: &[u32], rate: u32) -> PanakoFingerprint {
+        let hashes = hashes.chunks_exact(Self::HASH).map(|words| PanakoHash {
+            hash: words[0],
+            t_anchor: words[1],
+            t_b: words[2],
+            t_c: words[3],
+        });
+        PanakoFingerprint {
+            hashes: hashes.collect(),
+            frames_per_sec: f32::from_bits(rate),
+        }
+    }
+
+    calls_of!(PanakoIndex);
+}
+
+/// The store that holds what an index of the reference holds.
+pub fn write<I: Index>(content: &Content<I>, sizes: Sizes) -> Store {
+    let mut store = Store::zeroed::<I>(sizes);
+    let postings: usize = content.map.iter().map(|(_, list)| list.len()).sum();
+    let counts = [
+        content.fps.len(),
+        content.vacant.len(),
+        postings,
+        content.stopped.len(),
+    ];
+    let (header, rows) = store.refs.split_at_mut(HEADER);
+    header.copy_from_slice(&counts.map(|count| count as u32));
+    for (id, row) in rows.chunks_exact_mut(ROW).enumerate().take(counts[0]) {
+        // One word for every NaN.
+        row[0] = word32(content.fps[id]) as u32;
+        row[1] = content.r_max.get(id).copied().unwrap_or(0);
+        row[2] = content.live[id].into();
+    }
+    for (row, &id) in rows.chunks_exact_mut(ROW).zip(&content.vacant) {
+        row[3] = id;
+    }
+    let mut room = store.postings.chunks_exact_mut(I::WIDTH);
+    for (key, list) in &content.map {
+        for posting in list {
+            let words = room.next().expect("the postings are within P");
+            words[0] = *key;
+            words[1..].copy_from_slice(posting.words().as_ref());
+        }
+    }
+    store.stopped[..counts[3]].copy_from_slice(&content.stopped);
+    store
+}
+
+/// What a sound store holds.
+pub fn read<I: Index>(store: &Store) -> Content<I> {
+    let [n, v, p, k] = store.header().map(|count| count as usize);
+    let rows = || store.rows().take(n);
+    let mut map: Vec<(u32, Vec<I::Posting>)> = Vec::new();
+    for words in store.postings.chunks_exact(I::WIDTH).take(p) {
+        let posting = I::Posting::of(&words[1..]);
+        match map.last_mut() {
+            Some((key, list)) if *key == words[0] => list.push(posting),
+            _ => map.push((words[0], vec![posting])),
+        }
+    }
+    let live: Vec<bool> = rows().map(|row| row[2] == 1).collect();
+    Content::<I> {
+        map,
+        fps: rows().map(|row| f32::from_bits(row[0])).collect(),
+        r_max: rows().filter(|_| I::HAS_R_MAX).map(|row| row[1]).collect(),
+        live_count: live.iter().filter(|&&live| live).count(),
+        live,
+        vacant: store.rows().take(v).map(|row| row[3]).collect(),
+        stopped: store.stopped[..k].to_vec(),
+    }
+}

@@ -1,0 +1,29 @@
+-- `capi::index::panako_index_build` meets its contract. Assumes nothing.
+use mathlib.Core.Path.{ap, _∙_}
+use Rattle.capi.specs.Answers.{answerWords}
+use borrow.Author.Needs.{needs}
+use Rattle.capi.proofs.index.panako_index_build.Statement.{statement}
+use Rattle.capi.proofs.index.panako_index_build.Tie as tie
+
+build-requires : tie.Need-build-requires
+build-requires c κs = search needs
+
+put-building-requires : tie.Need-put-building-requires
+put-building-requires c κs = search needs
+
+same-length : tie.Need-same-length
+same-length c = search needs
+
+same-length-2 : tie.Need-same-length-2
+same-length-2 c = search needs
+
+same-length-3 : tie.Need-same-length-3
+same-length-3 c = search needs
+
+returns : tie.Need-returns
+returns c = let k = c .before .before .before .before .before .before .before .build in (c .put-building .ensures ∙ ap (λ a. answerWords a) (k .ensures .0), k .ensures .1)
+
+pub panako-index-build-spec : {M : Type 1} → statement M
+panako-index-build-spec =
+    tie.close
+    (tie.spec build-requires put-building-requires same-length same-length-2 same-length-3 returns)

@@ -1,0 +1,29 @@
+-- `capi::index::panako_index_remove` meets its contract. Assumes nothing.
+use mathlib.Core.Path.{ap, _∙_}
+use Rattle.capi.specs.Answers.{answerWords}
+use borrow.Author.Needs.{needs}
+use Rattle.capi.proofs.index.panako_index_remove.Statement.{statement}
+use Rattle.capi.proofs.index.panako_index_remove.Tie as tie
+
+remove-requires : tie.Need-remove-requires
+remove-requires c κs = search needs
+
+put-removal-requires : tie.Need-put-removal-requires
+put-removal-requires c κs = search needs
+
+same-length : tie.Need-same-length
+same-length c = search needs
+
+same-length-2 : tie.Need-same-length-2
+same-length-2 c = search needs
+
+same-length-3 : tie.Need-same-length-3
+same-length-3 c = search needs
+
+returns : tie.Need-returns
+returns c = let k = c .before .before .before .before .before .remove in (c .put-removal .ensures ∙ ap (λ a. answerWords a) (k .ensures .0), k .ensures .1)
+
+pub panako-index-remove-spec : {M : Type 1} → statement M
+panako-index-remove-spec =
+    tie.close
+    (tie.spec remove-requires put-removal-requires same-length same-length-2 same-length-3 returns)

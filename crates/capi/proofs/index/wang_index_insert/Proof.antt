@@ -1,0 +1,35 @@
+-- `capi::index::wang_index_insert` meets its contract. Assumes nothing.
+use mathlib.Core.Path.{ap, _∙_}
+use Rattle.capi.specs.Answers.{answerWords}
+use borrow.Author.Needs.{needs}
+use Rattle.capi.proofs.index.wang_index_insert.Statement.{statement}
+use Rattle.capi.proofs.index.wang_index_insert.Tie as tie
+
+insert-requires : tie.Need-insert-requires
+insert-requires c κs = search needs
+
+put-insertion-requires : tie.Need-put-insertion-requires
+put-insertion-requires c κs = search needs
+
+same-length : tie.Need-same-length
+same-length c = search needs
+
+same-length-2 : tie.Need-same-length-2
+same-length-2 c = search needs
+
+same-length-3 : tie.Need-same-length-3
+same-length-3 c = search needs
+
+returns : tie.Need-returns
+returns c = let k = c .before .before .before .before .before .before .before .insert in (c .put-insertion .ensures ∙ ap (λ a. answerWords a) (k .ensures .0), k .ensures .1)
+
+pub wang-index-insert-spec : {M : Type 1} → statement M
+wang-index-insert-spec =
+    tie.close
+    (tie.spec
+    insert-requires
+    put-insertion-requires
+    same-length
+    same-length-2
+    same-length-3
+    returns)

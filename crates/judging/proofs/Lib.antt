@@ -1,0 +1,6 @@
+-- Laws that belong to no one function.
+pub mod Counts
+pub mod Words
+pub mod Modes
+pub mod Peaks
+pub mod Gates

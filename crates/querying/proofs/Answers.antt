@@ -1,0 +1,30 @@
+-- The answer by the number of votes, counted up to one more than the room; and the scratch after it. Assumes nothing.
+use mathlib.Core.Path.{_≡_, refl}
+use mathlib.Core.List.{List}
+use mathlib.Core.Option.{Option, none, some}
+use Prim.Native.Nat.{ℕ, _+_, _≤_, _<_, min}
+use native.Mathlib.Omega.{arith}
+use lib.IntN.{ℤ, pos}
+use lib.ListN.{length, replicate}
+use borrow.Author.Tests.{lt-ltb, le-ltb}
+use Rattle.matching.specs.declared.MatchResult.{MatchResult}
+use Rattle.model.specs.Calls.{refused, answerOf}
+use Rattle.ranking.specs.Answers.{scratchAfter}
+use Rattle.judging.specs.declared.WangQuery.{WangQuery}
+use Rattle.querying.specs.Candidates.{bestIn, voteCountIn, wordsIn, answerIn}
+
+module _ (q : WangQuery) (room : ℕ) (rs ps hs : List ℕ) (v : ℕ) (e : v ≡ min (room + 1) (voteCountIn q rs ps hs)) where
+  pub too-many : room < v → answerIn q room rs ps hs ≡ refused 8
+  unfolding answerIn
+  too-many h = rw (lt-ltb room (voteCountIn q rs ps hs) (omega arith))
+
+  pub all-fit : v ≤ room → voteCountIn q rs ps hs ≤ room
+  all-fit h = omega arith
+
+  pub accepted : v ≤ room → answerIn q room rs ps hs ≡ answerOf (bestIn q rs (wordsIn q rs ps hs))
+  unfolding answerIn
+  accepted h = rw (le-ltb room (voteCountIn q rs ps hs) (omega arith))
+
+pub zeros-after : (o : Option (ℕ × MatchResult)) (s : List ℤ) → scratchAfter (answerOf o) s ≡ replicate (length s) (pos 0)
+zeros-after none s = refl
+zeros-after (some b) s = refl

@@ -1,0 +1,130 @@
+// The query of WangIndex: votes are counted against the scratch, gathered, sorted, and judged candidate by candidate.
+ghost use mathlib.Core.Path.{_≡_};
+ghost use Prim.Native.Nat.{_*_, _/_, _≤_, _<_, _^_};
+ghost use lib.ListN.{length, getD, take};
+ghost use Rattle.model.specs.Fingerprints.{hashesOf};
+ghost use Rattle.model.specs.Query.{trackBest};
+ghost use Rattle.model.specs.Run.{runQuery};
+ghost use Rattle.soundness.specs.Scan.{words};
+ghost use Rattle.ranking.specs.Answers.{bestSoFar, findingAnswer, scratchAfter};
+ghost use Rattle.judging.specs.Scheme.{queryOf, wang};
+ghost use Rattle.querying.specs.Asked.{asked};
+ghost use Rattle.querying.specs.Candidates.{resultIn, bestIn, voteCountIn, wordsIn, answerIn, Votes, Posted};
+use judging::Verdict;
+use judging::WangMatchConfig;
+use judging::WangQuery;
+use ranking::Best;
+use ranking::Finding;
+
+fn wide(x: u32) -> u64
+    ensures { λ r. ⌜ (r ≡ x) × (r < 2 ^ 32) ⌝ }
+{
+    x as u64
+}
+
+// A candidate's verdict comes next.
+fn keep(best: Best, id: u32, verdict: Verdict) -> Best
+    ensures { λ r. ⌜ bestSoFar r ≡ trackBest (bestSoFar best) id (resultIn verdict) ⌝ }
+{
+    match verdict {
+        Verdict::Barred => best,
+        Verdict::Passed(result) => ranking::track_best(best, id, result),
+    }
+}
+
+// The best candidate by the first v words, which are votes in ascending order. Bins are written from word 2 * v on.
+fn best_of(s: &mut [i64], v: usize, refs: &[u32], q: WangQuery) -> Best
+    requires { ⌜ Votes (now refs) (now s) v q ⌝ }
+    ensures { λ r. ⌜ bestSoFar r ≡ bestIn q (now (refs .entry)) (take v (now (s .entry))) ⌝ }
+{
+    let mut best = Best::Nothing;
+    let mut i = 0;
+    while i < v {
+        let e = bins::run_end(s, i, v, 44);
+        let id = bins::lead_at(s, i, 44);
+        let j = id as usize;
+        let rate = rows::row_word(refs, j, 0);
+        let r_max = rows::row_word(refs, j, 1);
+        best = keep(
+            best,
+            id as u32,
+            judging::judge(s, i, e - i, 2 * v, q, rate, r_max),
+        );
+        i = e;
+    }
+    best
+}
+
+// The best candidate by the votes of the query's hashes, which are gathered and sorted in the scratch.
+fn best_candidate(
+    s: &mut [i64],
+    refs: &[u32],
+    posts: &[u32],
+    p: usize,
+    hashes: &[u32],
+    q: WangQuery,
+) -> Best
+    requires { ⌜ Posted (now refs) (now posts) (now hashes) q × (p ≡ getD (now refs) 2 0) × (voteCountIn q (now refs) (now posts) (now hashes) ≤ 1000000)
+        × (4 * voteCountIn q (now refs) (now posts) (now hashes) ≤ length (now s)) ⌝ }
+    ensures { λ r. ⌜ bestSoFar r ≡ bestIn q (now (refs .entry)) (wordsIn q (now (refs .entry)) (now (posts .entry)) (now (hashes .entry))) ⌝ }
+{
+    let v = voting::gather(s, posts, p, hashes, q.q_len, wide(q.q_max));
+    sorting::sort_words(s, v);
+    best_of(s, v, refs, q)
+}
+
+// The answer of a query to which no refusal before 8 applies. An accepted one leaves zeros in the scratch.
+fn search(s: &mut [i64], refs: &[u32], posts: &[u32], hashes: &[u32], q: WangQuery) -> Finding
+    requires { ⌜ Posted (now refs) (now posts) (now hashes) q × (length (now s) / 6 ≤ 1000000) ⌝ }
+    ensures { λ r. ⌜ findingAnswer r ≡ answerIn q (length (now (s .entry)) / 6) (now (refs .entry)) (now (posts .entry)) (now (hashes .entry)) ⌝ }
+    ensures { λ _. ⌜ now (s .exit) ≡ scratchAfter (answerIn q (length (now (s .entry)) / 6) (now (refs .entry)) (now (posts .entry)) (now (hashes .entry))) (now (s .entry)) ⌝ }
+{
+    let room = s.len() / 6;
+    let p = rows::header(refs).postings;
+    if room < voting::count_votes(posts, p, hashes, q.q_len, room) {
+        return Finding::Refused(8);
+    }
+    let best = best_candidate(s, refs, posts, p, hashes, q);
+    maps::zero_words(s);
+    ranking::answer_of(best)
+}
+
+// What every candidate is judged with.
+fn query_of(hashes: &[u32], frames_per_sec: f32, cfg: WangMatchConfig) -> WangQuery
+    ensures { λ r. ⌜ r ≡ queryOf (record { cfg = cfg; rate = «frames_per_sec» }) (hashesOf 3 (now (hashes .entry))) ⌝ }
+{
+    WangQuery {
+        cfg,
+        frames_per_sec,
+        q_max: rows::row_max(hashes, 3),
+        q_len: hashes.len() / 2,
+    }
+}
+
+// The best recording for a query, with its result. The store is left as it is, and of the scratch an accepted query leaves zeros.
+pub fn query(
+    refs: &[u32],
+    posts: &[u32],
+    stops: &[u32],
+    s: &mut [i64],
+    hashes: &[u32],
+    frames_per_sec: f32,
+    cfg: WangMatchConfig,
+) -> Finding
+    ensures { λ r. ⌜ findingAnswer r ≡ runQuery wang (words (now (refs .entry)) (now (posts .entry)) (now (stops .entry))) (asked cfg «frames_per_sec» (now (hashes .entry)) (length (now (s .entry)))) .0 ⌝ }
+    ensures { λ _. ⌜ words (now (refs .entry)) (now (posts .entry)) (now (stops .entry)) ≡ runQuery wang (words (now (refs .entry)) (now (posts .entry)) (now (stops .entry))) (asked cfg «frames_per_sec» (now (hashes .entry)) (length (now (s .entry)))) .1 ⌝ }
+    ensures { λ _. ⌜ now (s .exit) ≡ scratchAfter (runQuery wang (words (now (refs .entry)) (now (posts .entry)) (now (stops .entry))) (asked cfg «frames_per_sec» (now (hashes .entry)) (length (now (s .entry)))) .0) (now (s .entry)) ⌝ }
+{
+    let beyond = 65535 < cfg.offset_tolerance_frames;
+    let r = refusals::of_query(refs, posts, stops, 3, s.len(), 6, hashes, beyond);
+    if r != 0 {
+        return Finding::Refused(r);
+    }
+    search(
+        s,
+        refs,
+        posts,
+        hashes,
+        query_of(hashes, frames_per_sec, cfg),
+    )
+}

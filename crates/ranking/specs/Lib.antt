@@ -1,0 +1,2 @@
+-- The best candidate of a query, its answer, and what it leaves of the scratch.
+pub mod Answers

@@ -1,0 +1,2 @@
+-- The table of a query's refusals.
+pub mod Early

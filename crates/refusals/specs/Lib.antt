@@ -1,0 +1,2 @@
+-- The refusals of a query that come before its votes are counted.
+pub mod Early

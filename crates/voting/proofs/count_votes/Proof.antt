@@ -1,0 +1,113 @@
+-- `voting::count_votes` meets its contract: at the outer loop's test v is the number of votes of the first i query hashes, at the inner
+-- one's j more, and neither passes the room. Assumes nothing.
+use mathlib.Core.Path.{_≡_, sym, ap, _∙_}
+use mathlib.Core.List.{List}
+use Prim.Native.Nat.{ℕ, _+_, _*_, _-_, _/_, _≤_}
+use native.Mathlib.Omega.{arith}
+use borrow.Author.Needs.{needs}
+use lib.ListN.{length, getD}
+use Rattle.lists.specs.Keys.{under}
+use Rattle.lists.specs.Entries.{entries, keyOf}
+use Rattle.voting.specs.Gathered.{voteCount}
+use Rattle.voting.proofs.Part.{part-many}
+use Rattle.voting.proofs.Votes.{count-none, count-more, count-mono}
+use Rattle.voting.proofs.count_votes.Statement.{statement}
+use Rattle.voting.proofs.count_votes.Tie as tie
+
+abbrev Inv-loop : tie.InvT-loop
+Inv-loop posts p hashes m room v₀ i n j₀ v j = (v ≡ voteCount (entries 3 p posts) (entries 2 i hashes) + j) × (v ≤ room) × (n ≡ length (under keyOf (getD hashes (2 * i) 0) (entries 3 p posts))) × (j ≤ n)
+
+abbrev μ-loop : tie.MeasureT-loop
+μ-loop posts p hashes m room v₀ i n j₀ v j = n - j
+
+abbrev Inv-hashes : tie.InvT-hashes
+Inv-hashes posts p hashes m room v₀ i₀ v i = (v ≡ voteCount (entries 3 p posts) (entries 2 i hashes)) × (v ≤ room) × (i ≤ m)
+
+abbrev μ-hashes : tie.MeasureT-hashes
+μ-hashes posts p hashes m room v₀ i₀ v i = m - i
+
+hashes-holds : tie.Need-hashes-holds Inv-loop μ-loop Inv-hashes μ-hashes
+hashes-holds c = (sym (count-none _ _), omega arith, omega arith)
+
+mul-postings-of : tie.Need-mul-postings-of Inv-loop μ-loop Inv-hashes μ-hashes
+mul-postings-of c = search needs
+
+mul-postings-of-2 : tie.Need-mul-postings-of-2 Inv-loop μ-loop Inv-hashes μ-hashes
+mul-postings-of-2 c = search needs
+
+shared-slice-read-postings-of :
+    tie.Need-shared-slice-read-postings-of Inv-loop μ-loop Inv-hashes μ-hashes
+shared-slice-read-postings-of c = search needs
+
+postings-of-requires : tie.Need-postings-of-requires Inv-loop μ-loop Inv-hashes μ-hashes
+postings-of-requires c κs =
+    let s = c .before .before .before .before .before in
+    (omega arith, s .pre .0 .postings, s .pre .0 .ascend)
+
+loop-holds : tie.Need-loop-holds Inv-loop μ-loop Inv-hashes μ-hashes
+loop-holds c =
+    let s = c .before .before .before .before .before .before in
+    let key = getD (s .args .hashes .now) (2 * c .before .before .before .hashes .i) 0 in
+    (omega arith, omega arith, ap (λ (l : List ℕ). length l / 3) (c .postings-of .ensures) ∙ part-many (s .args .posts .now) (s .args .p) (s .pre .0 .postings) key, omega arith)
+
+add-v : tie.Need-add-v Inv-loop μ-loop Inv-hashes μ-hashes
+add-v c = search needs
+
+add-j : tie.Need-add-j Inv-loop μ-loop Inv-hashes μ-hashes
+add-j c = search needs
+
+loop-less : tie.Need-loop-less Inv-loop μ-loop Inv-hashes μ-hashes
+loop-less c = search needs
+
+loop-again : tie.Need-loop-again Inv-loop μ-loop Inv-hashes μ-hashes
+loop-again c = (omega arith, omega arith, c .before .before .loop .inv .2, omega arith)
+
+add-i : tie.Need-add-i Inv-loop μ-loop Inv-hashes μ-hashes
+add-i c = search needs
+
+hashes-less : tie.Need-hashes-less Inv-loop μ-loop Inv-hashes μ-hashes
+hashes-less c = search needs
+
+hashes-again : tie.Need-hashes-again Inv-loop μ-loop Inv-hashes μ-hashes
+hashes-again c =
+    let s = c .before .before .before .before .before .before .before .before in
+    let l = c .before .before .before .before .before .hashes in
+    (omega (arith, count-more (entries 3 (s .args .p) (s .args .posts .now)) (s .args .hashes .now) (l .i)), omega arith, omega arith)
+
+returns : tie.Need-returns Inv-loop μ-loop Inv-hashes μ-hashes
+returns c =
+    let l = c .before .hashes in
+    let e : l .i ≡ c .before .before .before .before .args .m = omega arith in
+    let q = rw e at (l .inv .0) in
+    omega (arith, q)
+
+returns-2 : tie.Need-returns-2 Inv-loop μ-loop Inv-hashes μ-hashes
+returns-2 c =
+    let s = c .before .before .before .before .before .before .before .before .before in
+    let l = c .before .before .before .before .before .before .hashes in
+    let es = entries 3 (s .args .p) (s .args .posts .now) in
+    omega (arith, count-more es (s .args .hashes .now) (l .i), count-mono es (s .args .hashes .now) (l .i + 1) (s .args .m) (omega arith))
+
+pub count-votes-spec : {M : Type 1} → statement M
+count-votes-spec =
+    tie.close
+    (tie.spec
+    Inv-loop
+    μ-loop
+    Inv-hashes
+    μ-hashes
+    hashes-holds
+    mul-postings-of
+    mul-postings-of-2
+    shared-slice-read-postings-of
+    postings-of-requires
+    loop-holds
+    add-v
+    add-j
+    loop-less
+    loop-again
+    add-i
+    hashes-less
+    hashes-again
+    returns
+    returns-2)

@@ -1,0 +1,39 @@
+-- `voting::gather_key` meets its contract: the entries of the part are those under the key. Assumes nothing.
+use mathlib.Core.Path.{refl}
+use native.Mathlib.Omega.{arith}
+use Rattle.voting.proofs.Part.{part-length, part-many, part-entries, part-ids}
+use borrow.Author.Needs.{needs}
+use Rattle.voting.proofs.gather_key.Statement.{statement}
+use Rattle.voting.proofs.gather_key.Tie as tie
+
+postings-of-requires : tie.Need-postings-of-requires
+postings-of-requires c κs = let s = c .before in (omega arith, s .pre .0, s .pre .1)
+
+gather-part-requires : tie.Need-gather-part-requires
+gather-part-requires c κs =
+    let s = c .before .before .before in
+    let ps = s .args .posts .now in
+    let p = s .args .p in
+    let key = s .args .key in
+    rw (c .before .postings-of .ensures, part-many ps p (s .pre .0) key, part-entries ps p (s .pre .0) key)
+    (omega arith, omega (arith, part-length ps p (s .pre .0) key), part-ids ps p (s .pre .0) key (s .pre .2), s .pre .4, s .pre .5)
+
+add-result : tie.Need-add-result
+add-result c = search needs
+
+same-length : tie.Need-same-length
+same-length c = search needs
+
+returns : tie.Need-returns
+returns c =
+    let s = c .before .before .before .before .before in
+    let ps = s .args .posts .now in
+    let p = s .args .p in
+    let key = s .args .key in
+    let part = c .before .before .before .postings-of .ensures in
+    let e = rw (part, part-many ps p (s .pre .0) key, part-entries ps p (s .pre .0) key) at (c .before .gather-part .ensures) in
+    rw (part, part-many ps p (s .pre .0) key) (refl, e)
+
+pub gather-key-spec : {M : Type 1} → statement M
+gather-key-spec =
+    tie.close (tie.spec postings-of-requires gather-part-requires add-result same-length returns)

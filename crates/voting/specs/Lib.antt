@@ -1,0 +1,2 @@
+-- The votes of a Wang query.
+pub mod Gathered

@@ -1,0 +1,2 @@
+-- The claim about histories for WangIndex.
+pub mod Demand3
