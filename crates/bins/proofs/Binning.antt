@@ -151,12 +151,12 @@ binning-all s₀ s a g at low i n h B =
     let e : i ≡ g = omega (arith, B .on) in
     (subst (λ (k : ℕ). Binned (places s₀ a) k low (drop at s) n) e (B .stage .binned), B .kept)
 
-module _ (s₀ s : List ℤ) (a g at : ℕ) (low : ℤ) (i n r : ℕ) (G : Group s₀ a g at) (B : Binning s₀ s a g at low i n) (h : i < g) (U : Run (λ t. leadOf 11 (getD s t (pos 0))) (a + i) (a + g) r) where
+module _ (s₀ s : List ℤ) (a g at : ℕ) (low : ℤ) (i n r : ℕ) (G : Group s₀ a g at) (B : Binning s₀ s a g at low i n) (h : i < g) (U : Run (λ t. leadOf 0 11 (getD s t (pos 0))) (a + i) (a + g) r) where
   -- the run is one of places of the first votes
   pub binning-run : Run (places s₀ a) i g (r - a)
   binning-run =
       places-run s₀ a g at G i r h
-      (run-cong (λ t. leadOf 11 (getD s t (pos 0))) (λ t. leadOf 11 (getD s₀ t (pos 0))) (a + i) (a + g) r (omega arith) (λ t k. ap (leadOf 11) (B .kept .before t (omega (arith, G .before)))) U)
+      (run-cong (λ t. leadOf 0 11 (getD s t (pos 0))) (λ t. leadOf 0 11 (getD s₀ t (pos 0))) (a + i) (a + g) r (omega arith) (λ t k. ap (leadOf 0 11) (B .kept .before t (omega (arith, G .before)))) U)
 
   pub binning-more : (s′ : List ℤ) (x : ℕ) → x ≡ places s a i → s′ ≡ set (set s (at + 2 * n) (low +ℤ pos x)) (at + 2 * n + 1) (pos (r - a - i)) → Binning s₀ s′ a g at low (r - a) (n + 1)
   unfolding places

@@ -1,4 +1,5 @@
 -- Laws that belong to no one function.
+pub mod Above
 pub mod Votes
 pub mod Binning
 pub mod Marking

@@ -5,8 +5,7 @@ use Prim.Native.Nat.{ℕ, _+_, _-_, _/_, _%_, _^_, _≤_, _<_}
 use native.Mathlib.Omega.{arith}
 use lib.IntN.{ℤ, pos}
 use lib.ListN.{getD}
-use Rattle.maps.specs.Words.{natOf}
-use Rattle.bins.specs.Votes.{packed, leadOf, recordingOf, placeOf, positionOf, places, Run, Group}
+use Rattle.bins.specs.Votes.{packed, above, leadOf, recordingOf, placeOf, positionOf, places, Run, Group}
 
 -- ---- the parts of a packed vote
 module _ (id place position : ℕ) (h : place < 2 ^ 33) (k : position < 2 ^ 11) where
@@ -39,9 +38,9 @@ module _ (s : List ℤ) (a g at : ℕ) (G : Group s a g at) where
   pub places-ascend : (i j : ℕ) → i < j → j < g → places s a i ≤ places s a j
   unfolding places
   places-ascend i j h k =
-      place-le (natOf (getD s (a + i) (pos 0))) (natOf (getD s (a + j) (pos 0))) (G .one i (omega arith) ∙ sym (G .one j k)) (G .ascend i j h k)
+      place-le (above 0 (getD s (a + i) (pos 0))) (above 0 (getD s (a + j) (pos 0))) (G .one i (omega arith) ∙ sym (G .one j k)) (G .ascend i j h k)
 
-  pub places-run : (i r : ℕ) → i < g → Run (λ t. leadOf 11 (getD s t (pos 0))) (a + i) (a + g) r → Run (places s a) i g (r - a)
+  pub places-run : (i r : ℕ) → i < g → Run (λ t. leadOf 0 11 (getD s t (pos 0))) (a + i) (a + g) r → Run (places s a) i g (r - a)
   unfolding places
   places-run i r h U =
       let back : a + (r - a) ≡ r = omega (arith, U .since) in
@@ -49,6 +48,6 @@ module _ (s : List ℤ) (a g at : ℕ) (G : Group s a g at) where
         since = omega (arith, U .since);
         within = omega (arith, U .within);
         same = λ t b c. ap (λ (x : ℕ). x % 2 ^ 33) (U .same (a + t) (omega arith) (omega arith));
-        stop = λ l q. U .stop (omega arith) (ap (λ (t : ℕ). leadOf 11 (getD s t (pos 0))) (sym back)
-            ∙ lead-same (natOf (getD s (a + (r - a)) (pos 0))) (natOf (getD s (a + i) (pos 0))) (G .one (r - a) l ∙ sym (G .one i h)) q);
+        stop = λ l q. U .stop (omega arith) (ap (λ (t : ℕ). leadOf 0 11 (getD s t (pos 0))) (sym back)
+            ∙ lead-same (above 0 (getD s (a + (r - a)) (pos 0))) (above 0 (getD s (a + i) (pos 0))) (G .one (r - a) l ∙ sym (G .one i h)) q);
       }

@@ -5,7 +5,7 @@ ghost use lib.IntN.{pos, negℤ, _+ℤ_};
 ghost use lib.ListN.{length, getD, set, drop};
 ghost use Rattle.maps.specs.Sums.{sumTo, when};
 ghost use Rattle.maps.specs.Words.{SameOutside};
-ghost use Rattle.bins.specs.Votes.{packed, leadOf, places, positions, Run, Group};
+ghost use Rattle.bins.specs.Votes.{packed, above, leadOf, places, positions, Run, Group};
 ghost use Rattle.bins.specs.Binned.{Binned};
 ghost use Rattle.bins.specs.Distinct.{nearPlace, marked, distinctNear};
 
@@ -17,23 +17,46 @@ pub fn pack(id: u64, place: u64, position: u64) -> u64
     (id << 44) + (place << 11) + position
 }
 
-// Word i without its last bits.
-pub fn lead_at(s: &[i64], i: usize, bits: u32) -> u64
-    requires { ⌜ (i < length (now s)) × (bits < 64) ⌝ }
-    ensures { λ r. ⌜ r ≡ leadOf bits (getD (now (s .entry)) i (pos 0)) ⌝ }
+// How far x lies above -low, 0 where it lies below.
+fn above_low(x: i64, low: u64) -> u64
+    requires { ⌜ low ≤ 2 ^ 63 ⌝ }
+    ensures { λ r. ⌜ r ≡ above low x ⌝ }
 {
-    maps::word_at(s, i) >> bits
+    if 0 <= x {
+        return low + (x as u64);
+    }
+    let m = (-1 - x) as u64;
+    if m < low {
+        return low - m - 1;
+    }
+    0
+}
+
+// How far word i lies above -low. Where low is 0 it is the natural number in the word.
+pub fn word_above(s: &[i64], i: usize, low: u64) -> u64
+    requires { ⌜ (i < length (now s)) × (low ≤ 2 ^ 63) ⌝ }
+    ensures { λ r. ⌜ r ≡ above low (getD (now (s .entry)) i (pos 0)) ⌝ }
+{
+    above_low(s[i], low)
+}
+
+// The same without its last bits.
+pub fn lead_at(s: &[i64], i: usize, low: u64, bits: u32) -> u64
+    requires { ⌜ (i < length (now s)) × (low ≤ 2 ^ 63) × (bits < 64) ⌝ }
+    ensures { λ r. ⌜ r ≡ leadOf low bits (getD (now (s .entry)) i (pos 0)) ⌝ }
+{
+    word_above(s, i, low) >> bits
 }
 
 // Where the run of words ends, from i on and below e, that are alike without their last bits.
-pub fn run_end(s: &[i64], i: usize, e: usize, bits: u32) -> usize
-    requires { ⌜ (i < e) × (e ≤ length (now s)) × (bits < 64) ⌝ }
-    ensures { λ r. ⌜ Run (λ (t : ℕ). leadOf bits (getD (now (s .entry)) t (pos 0))) i e r ⌝ }
+pub fn run_end(s: &[i64], i: usize, e: usize, low: u64, bits: u32) -> usize
+    requires { ⌜ (i < e) × (e ≤ length (now s)) × (low ≤ 2 ^ 63) × (bits < 64) ⌝ }
+    ensures { λ r. ⌜ Run (λ (t : ℕ). leadOf low bits (getD (now (s .entry)) t (pos 0))) i e r ⌝ }
 {
-    let x = lead_at(s, i, bits);
+    let x = lead_at(s, i, low, bits);
     let mut r = i + 1;
     while r < e {
-        if lead_at(s, r, bits) != x {
+        if lead_at(s, r, low, bits) != x {
             return r;
         }
         r += 1;
@@ -46,7 +69,7 @@ fn place_at(s: &[i64], a: usize, t: usize) -> u64
     requires { ⌜ a + t < length (now s) ⌝ }
     ensures { λ r. ⌜ (r ≡ places (now (s .entry)) a t) × (r < 2 ^ 33) ⌝ }
 {
-    (maps::word_at(s, a + t) >> 11) % 0x2_0000_0000
+    lead_at(s, a + t, 0, 11) % 0x2_0000_0000
 }
 
 // Its query position.
@@ -54,7 +77,7 @@ fn position_at(s: &[i64], a: usize, t: usize) -> usize
     requires { ⌜ a + t < length (now s) ⌝ }
     ensures { λ r. ⌜ (r ≡ positions (now (s .entry)) a t) × (r < 2048) ⌝ }
 {
-    (maps::word_at(s, a + t) % 2048) as usize
+    (word_above(s, a + t, 0) % 2048) as usize
 }
 
 // A bin: the offset x above the low end, -top, and its count.
@@ -78,7 +101,7 @@ pub fn count_sorted(s: &mut [i64], a: usize, g: usize, at: usize, top: u64) -> u
     let mut n = 0;
     while i < g {
         let x = place_at(s, a, i);
-        let r = run_end(s, a + i, a + g, 11) - a;
+        let r = run_end(s, a + i, a + g, 0, 11) - a;
         put_bin(s, at + 2 * n, x, (r - i) as u64, top);
         i = r;
         n += 1;

@@ -19,6 +19,7 @@ use Rattle.lists.proofs.Place.{sorted-placeAll, under-placeAll, under-map, unde
 use Rattle.lists.proofs.Ascending.{ascending-ext}
 use Rattle.gathering.specs.Codes.{listed, ranksFrom, rankOf, inOrder, Fit}
 use Rattle.gathering.proofs.Ranks.{listed-same, sum-more}
+use Rattle.gathering.proofs.Order.{ordered-is, keys-ordered}
 use Rattle.stopping.specs.Over.{keyIn, times, over, overKeys, keysOf, kept}
 use Rattle.stopping.proofs.Over.{member-over, ascending-over}
 use Rattle.stopping.proofs.Stops.{times-keys}
@@ -28,7 +29,6 @@ use Rattle.model.specs.Rows.{rowOf}
 use Rattle.model.specs.Index.{Posting, empty, keyOf, numbered, exceeds, withoutKeys, isStopped, placed, postingsAfter, stoppedAfter}
 use Rattle.model.specs.Words.{postingWords, rowWords, rowEntries}
 use Rattle.model.proofs.Parts.{member-stopKeys, ascending-stopKeys}
-use Rattle.building.proofs.Order.{ordered-is, keys-ordered}
 use Rattle.building.proofs.Numbered.{postOf, numbered-is}
 
 -- ---- nothing stored and nothing stopped before

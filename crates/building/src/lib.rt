@@ -86,7 +86,7 @@ fn refusal_of(
     if posts.len() / w < hashes.len() / v {
         return 6;
     }
-    if stops.len() < stopping::over_count(hashes, v, lengths, size(limit)) {
+    if stopping::over_room(hashes, v, lengths, size(limit), stops.len()) {
         return 7;
     }
     0

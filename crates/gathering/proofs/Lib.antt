@@ -2,3 +2,4 @@
 pub mod Sorts
 pub mod Ranks
 pub mod Held
+pub mod Order

@@ -1,30 +1,26 @@
--- What is seen of a candidate whose bins are there, and the gates as the code reads them, one after the other. Assumes nothing.
+-- What is seen of a candidate whose bins are there, and the gates that it goes through. Assumes nothing.
 use mathlib.Core.Path.{_≡_, refl, sym, ap, _∙_}
-use mathlib.Core.Bool.{true, false}
 use mathlib.Core.List.{List}
 use Prim.Native.Nat.{ℕ, _+_, _^_, _≤_, _<_}
 use native.Mathlib.Omega.{arith}
 use lib.IntN.{ℤ, pos, negℤ, natAbs, _+ℤ_, +ℤ-comm, +ℤ-assoc, +ℤ-invl, +ℤ-idl, -ℤ-+ℤ-cancel}
 use lib.ListN.{length, drop, length-drop}
 use lib.Signed.{nonNeg}
-use lib.Dec.{T, leb}
+use lib.Dec.{T}
 use lib.Ieee.{Float, binary32, ofBits}
-use borrow.Author.Tests.{le-leb, lt-leb}
-use Rattle.lists.specs.Every.{allTrue}
 use Rattle.maps.proofs.Signed.{abs-neg}
-use Rattle.matching.specs.Rates.{ratesAgree}
-use Rattle.matching.specs.Scores.{belowThreshold, wangProminence}
-use Rattle.matching.specs.declared.MatchResult.{MatchResult}
+use Rattle.matching.specs.Scores.{wangProminence}
 use Rattle.bins.specs.Votes.{places, positions}
 use Rattle.consolidate.specs.Box.{boxPeak}
 use Rattle.consolidate.specs.Limits.{Span}
 use Rattle.consolidate.specs.declared.Peak.{Peak}
 use Rattle.consolidate.proofs.Facts.{midpoint, midpoint-le}
-use Rattle.judging.specs.Judge.{Counts, anyVote, Seen, seenOf, gates, resultAt, resultOf, passing, judgeBy}
-use Rattle.judging.specs.Candidates.{countsIn, seenIn, Counted, verdictOf}
+use Rattle.judging.specs.Gates.{verdictOf}
+use Rattle.judging.specs.Judge.{Counts, anyVote, seenOf, askedOf, atPeak, resultOf, judgeBy}
+use Rattle.judging.specs.Candidates.{countsIn, seenIn, Counted}
 use Rattle.judging.specs.declared.WangQuery.{WangQuery}
 use Rattle.judging.specs.declared.Verdict.{Verdict}
-use Rattle.judging.specs.declared.Verdict.the-variants.{Barred, Passed}
+use Rattle.judging.proofs.Passing.{Judged}
 use Rattle.judging.proofs.Words.{counts-tell, counts-few}
 use Rattle.judging.proofs.Peaks.{peak-is, span-of, sums, peak-le, peak-under, peak-centre}
 
@@ -92,49 +88,14 @@ module _ (q : WangQuery) (rmax : ℕ) (s : List ℤ) (a g : ℕ) where
   pub centre-few : natAbs (seenIn q rmax s a g .peak .centre +ℤ pos (q .«q_max»)) ≤ width
   centre-few = rw up-is (midpoint-le (sums (countsIn (q .«q_max») s a g) tol low) width)
 
--- ---- gates 3 and 4, with what the code found
-module _ (q : WangQuery) (fps : Float) (S : Seen) where
-  abbrev pub Weighed : Verdict → Type 0
-  Weighed v = v ≡ verdictOf (passing (drop 2 (gates q fps S)) (resultOf fps S))
-
-  module _ (peak : Peak) (pe : peak ≡ S .peak) where
-    pub bar-peak : peak .votes < q .cfg .«min_votes» → Weighed Barred
-    unfolding gates allTrue
-    bar-peak h = let e = rw pe at h in rw (lt-leb (q .cfg .«min_votes») (S .peak .votes) e) refl
-
-    module _ (some : q .cfg .«min_votes» ≤ peak .votes) (prominence : Float) (re : prominence ≡ S .prominence) where
-      enough : leb (q .cfg .«min_votes») (S .peak .votes) ≡ true
-      enough = let e = rw pe at some in le-leb (q .cfg .«min_votes») (S .peak .votes) e
-
-      pub bar-prominence : belowThreshold prominence (q .cfg .«min_prominence») ≡ true → Weighed Barred
-      unfolding gates allTrue
-      bar-prominence b = let e = rw re at b in rw (enough, e) refl
-
-      module _ (clear : belowThreshold prominence (q .cfg .«min_prominence») ≡ false) (score : Float) (se : score ≡ S .score) where
-        pub bar-score : belowThreshold score (q .cfg .«min_score») ≡ true → Weighed Barred
-        unfolding gates allTrue
-        bar-score b = let e = rw se at b in let f = rw re at clear in rw (enough, f, e) refl
-
-        pub pass-all : belowThreshold score (q .cfg .«min_score») ≡ false → (r : MatchResult) → r ≡ resultAt score (peak .votes) prominence (peak .mode) fps → Weighed (Passed r)
-        unfolding gates allTrue
-        pass-all b r w = let e = rw se at b in let f = rw re at clear in let x = rw (se, re, pe) at w in rw (enough, f, e) (ap Passed x)
-
--- ---- gates 1 and 2
+-- ---- the gates, from the word of the row's rate
 module _ (q : WangQuery) (rate rmax : ℕ) (n : Counts) where
-  abbrev Judged : Verdict → Type 0
-  Judged v = v ≡ verdictOf (judgeBy q (record { rate = rate; rmax = rmax }) n)
+  pub seen-votes : seenOf q rmax n .votes ≡ n anyVote
+  unfolding seenOf
+  seen-votes = refl
 
-  module _ (fps : Float) (fe : fps ≡ ofBits binary32 rate) where
-    pub bar-rate : ratesAgree (q .«frames_per_sec») fps ≡ false → Judged Barred
-    unfolding judgeBy gates allTrue
-    bar-rate b = let e = rw fe at b in rw e refl
-
-    module _ (agree : ratesAgree (q .«frames_per_sec») fps ≡ true) (g : ℕ) (ge : n anyVote ≡ g) where
-      pub bar-votes : g < q .cfg .«min_votes» → Judged Barred
-      unfolding judgeBy gates allTrue seenOf
-      bar-votes h = let e = rw fe at agree in rw (e, ge, lt-leb (q .cfg .«min_votes») g h) refl
-
-      -- the votes may have been counted in other words
-      pub goes-on : q .cfg .«min_votes» ≤ g → (v : Verdict) (n′ : Counts) → n′ ≡ n → Weighed q fps (seenOf q rmax n′) v → Judged v
-      unfolding judgeBy gates allTrue seenOf
-      goes-on h v n′ same w = let e = rw fe at agree in let x = rw (same, fe) at w in rw (e, ge, le-leb (q .cfg .«min_votes») g h) x
+  pub judged-by : (fps : Float) → fps ≡ ofBits binary32 rate → (v : Verdict)
+      → Judged (askedOf q) fps (seenOf q rmax n .votes) (atPeak (seenOf q rmax n)) (resultOf fps (seenOf q rmax n)) v
+      → v ≡ verdictOf (judgeBy q (record { rate = rate; rmax = rmax }) n)
+  unfolding judgeBy
+  judged-by fps e v w = rw e at w

@@ -3,4 +3,5 @@ pub mod Counts
 pub mod Words
 pub mod Modes
 pub mod Peaks
+pub mod Passing
 pub mod Gates

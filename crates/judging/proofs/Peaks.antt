@@ -50,7 +50,7 @@ keep-none : (b : Bool) → when b 0 ≡ 0
 keep-none true = refl
 keep-none false = refl
 
-leZ-ltZ : (a b : ℤ) → leZ b a ≡ false → T (ltZ a b)
+pub leZ-ltZ : (a b : ℤ) → leZ b a ≡ false → T (ltZ a b)
 leZ-ltZ (pos a) (pos b) e = rw (lt-ltb a b (leb-false b a e)) tt
 leZ-ltZ (pos a) (negsuc b) e = let z : _≡_ {A = ℕ} 0 1 = cc in absurd (omega arith)
 leZ-ltZ (negsuc a) (pos b) e = tt

@@ -1,17 +1,13 @@
 -- A candidate's votes as they stand in the scratch, sorted, and what the code that judges it asks. Assumes nothing: these are definitions.
 use mathlib.Core.List.{List, map}
-use mathlib.Core.Option.{Option, none, some}
 use Prim.Native.Nat.{ℕ, _+_, _*_, _≤_, _<_}
 use lib.IntN.{ℤ, pos, negℤ, _+ℤ_}
 use lib.ListN.{length, take, drop}
 use Rattle.bins.specs.Votes.{placeOf, positionOf, places, Group}
-use Rattle.matching.specs.declared.MatchResult.{MatchResult}
 use Rattle.bins.specs.Binned.{Binned}
 use Rattle.judging.specs.Judge.{Vote, Counts, Seen, seenOf}
 use Rattle.judging.specs.Scheme.{countsOf}
 use Rattle.judging.specs.declared.WangQuery.{WangQuery}
-use Rattle.judging.specs.declared.Verdict.{Verdict}
-use Rattle.judging.specs.declared.Verdict.the-variants.{Barred, Passed}
 
 -- the vote of a word: its place counts from −top, the low end of the span
 abbrev pub voteIn : ℕ → ℤ → Vote
@@ -48,8 +44,3 @@ pub record Counted (s : List ℤ) (a g at n : ℕ) (q : WangQuery) (rmax : ℕ) 
   pub before : a + g ≤ at
   pub room : at + 2 * g ≤ length s
   pub bins : Binned (places s a) g (negℤ (pos (q .«q_max»))) (drop at s) n
-
--- what the code answers
-abbrev pub verdictOf : Option MatchResult → Verdict
-verdictOf none = Barred
-verdictOf (some r) = Passed r

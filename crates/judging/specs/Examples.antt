@@ -19,7 +19,8 @@ use Rattle.consolidate.specs.Modes.{mode}
 use Rattle.consolidate.specs.Box.{peakOver}
 use Rattle.model.specs.Fingerprints.{Hash}
 use Rattle.model.specs.Rows.{Row, largestAnchor}
-use Rattle.judging.specs.Judge.{Vote, modeWithin, peakOf, distinct, seenOf, gates, resultAt, judgeBy}
+use Rattle.judging.specs.Gates.{peakGates, gates, resultAt}
+use Rattle.judging.specs.Judge.{Vote, modeWithin, peakOf, distinct, seenOf, judgeBy}
 use Rattle.judging.specs.Scheme.{Ask, voteOf, judge}
 
 -- what the sheet prints of a result: votes, score bits, prominence bits, frames, ms
@@ -87,5 +88,5 @@ table =
     ∷ []
 
 right : All table
-unfolding modeWithin peakOf distinct seenOf gates resultAt judgeBy judge largestAnchor allTrue count sumTo sumToℤ greatest first firstGreatest runEnd mode peakOver wangProminence clampScore scoreOf ratesAgree millis roundToI64 abs maximum add sub mul div le lt isNan ofInt ofBits toBits
+unfolding modeWithin peakOf distinct seenOf peakGates gates resultAt judgeBy judge largestAnchor allTrue count sumTo sumToℤ greatest first firstGreatest runEnd mode peakOver wangProminence clampScore scoreOf ratesAgree millis roundToI64 abs maximum add sub mul div le lt isNan ofInt ofBits toBits
 right = (refl, (refl, (refl, (refl, (refl, (refl, (refl, (refl, tt))))))))

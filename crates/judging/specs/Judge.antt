@@ -1,24 +1,21 @@
 -- Wang's judge: steps 1 to 4 of document 01's "Each candidate", from a candidate's votes, its row and the query. All of it is said by
 -- counts of votes, so their order can't matter (proofs/Counts.antt). Definitions only. Assumes nothing.
-use mathlib.Core.Bool.{Bool, true, cond, not, _&&_}
-use mathlib.Core.List.{List, [], _∷_}
-use mathlib.Core.Option.{Option, none, some}
+use mathlib.Core.Bool.{Bool, true, _&&_}
+use mathlib.Core.Option.{Option}
 use Prim.Native.Nat.{ℕ, _+_}
 use lib.IntN.{ℤ, pos, negℤ, _+ℤ_}
-use lib.Dec.{eqb, leb, ltb}
+use lib.Dec.{eqb, ltb}
 use lib.Ieee.{Float, binary32, ofBits}
-use Rattle.lists.specs.Every.{allTrue}
 use Rattle.maps.specs.Sums.{sumTo, when}
 use Rattle.floats.specs.Selection.{one}
-use Rattle.matching.specs.Offsets.{fromFrames}
-use Rattle.matching.specs.Rates.{ratesAgree}
-use Rattle.matching.specs.Scores.{belowThreshold, wangProminence, scoreOf}
+use Rattle.matching.specs.Scores.{wangProminence, scoreOf}
 use Rattle.matching.specs.declared.MatchResult.{MatchResult}
 use Rattle.consolidate.specs.Modes.{mode}
 use Rattle.consolidate.specs.Box.{within, peakOver}
 use Rattle.consolidate.specs.declared.Mode.{Mode}
 use Rattle.consolidate.specs.declared.Peak.{Peak}
 use Rattle.model.specs.Rows.{Row}
+use Rattle.judging.specs.Gates.{Asked, AtPeak, gates, resultAt, passing}
 use Rattle.judging.specs.declared.WangQuery.{WangQuery}
 
 -- "Wang vote: id, δ = t_anchor of the posting − t_anchor of the query hash, position of the query hash". The id is the candidate's.
@@ -59,7 +56,7 @@ distinct n tol c m = sumTo (λ i. when (ltb 0 (n (λ v. eqb (v .position) i && n
 
 -- ── the judge ──
 
--- what the gates look at, the rates aside
+-- what is seen of a candidate, its rate aside
 pub record Seen : Type 0 where
   pub votes : ℕ
   pub peak : Peak
@@ -79,39 +76,19 @@ seenOf q rmax n =
       score = scoreOf (distinct n tol (peak .centre) (q .«q_len»)) (q .«q_len»);
     }
 
--- "1 to 4, which are the gates": whether a candidate with this rate passes each
-unfoldable pub gates : WangQuery → Float → Seen → List Bool
-gates q rate s =
-    -- 1. "Rates a, b: finite, positive, |a − b| ≤ 0.001 × the larger, in f32."
-    ratesAgree (q .«frames_per_sec») rate
-    -- 2. "Too few votes against min_votes: no candidate."
-    ∷ leb (q .cfg .«min_votes») (s .votes)
-    -- 3. "Peak as below; again min_votes."
-    ∷ leb (q .cfg .«min_votes») (s .peak .votes)
-    -- 4. "Prominence, then score. `below_threshold` bars whatever isn't ≥ the threshold, so NaN bars all and equality passes."
-    ∷ not (belowThreshold (s .prominence) (q .cfg .«min_prominence»))
-    ∷ not (belowThreshold (s .score) (q .cfg .«min_score»))
-    ∷ []
+-- what the gates ask, and what they look at
+abbrev pub askedOf : WangQuery → Asked
+askedOf q = record { rate = q .«frames_per_sec»; minVotes = q .cfg .«min_votes»; minScore = q .cfg .«min_score»; minProminence = q .cfg .«min_prominence» }
+
+abbrev pub atPeak : Seen → AtPeak
+atPeak s = record { votes = s .peak .votes; prominence = s .prominence; score = s .score }
 
 -- "The result's frames are the mode." "Wang time scale is 1.0."
-unfoldable pub resultAt : Float → ℕ → Float → ℤ → Float → MatchResult
-resultAt score votes prominence mode rate = record {
-  «is_match» = true;
-  score = score;
-  votes = votes;
-  prominence = prominence;
-  offset = fromFrames mode rate;
-  «time_scale» = one;
-}
-
 abbrev pub resultOf : Float → Seen → MatchResult
-resultOf rate s = resultAt (s .score) (s .peak .votes) (s .prominence) (s .peak .mode) rate
-
--- a candidate that passes them all has this result
-abbrev pub passing : List Bool → MatchResult → Option MatchResult
-passing gs r = cond (allTrue gs) (some r) none
+resultOf rate s = resultAt (atPeak s) (s .peak .mode) rate one
 
 unfoldable pub judgeBy : WangQuery → Row → Counts → Option MatchResult
 judgeBy q r n =
     let rate : Float = ofBits binary32 (r .rate) in
-    passing (gates q rate (seenOf q (r .rmax) n)) (resultOf rate (seenOf q (r .rmax) n))
+    let s : Seen = seenOf q (r .rmax) n in
+    passing (gates (askedOf q) rate (s .votes) (atPeak s)) (resultOf rate s)

@@ -1,4 +1,5 @@
--- The judge of one Wang candidate and the scheme; worked examples; then what the code says of its words.
+-- The gates, which Panako's judge has too; the judge of one Wang candidate and the scheme; worked examples; then what the code says of its words.
+pub mod Gates
 pub mod Judge
 pub mod Scheme
 pub mod Examples

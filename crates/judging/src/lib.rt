@@ -10,8 +10,9 @@ ghost use Rattle.maps.specs.Words.{SameOutside};
 ghost use Rattle.matching.specs.Scores.{scoreOf};
 ghost use Rattle.consolidate.specs.Box.{boxPeak};
 ghost use Rattle.consolidate.specs.Limits.{Span};
-ghost use Rattle.judging.specs.Judge.{distinct, gates, resultAt, resultOf, passing, judgeBy};
-ghost use Rattle.judging.specs.Candidates.{countsIn, seenIn, Candidate, Counted, verdictOf};
+ghost use Rattle.judging.specs.Gates.{peakGates, resultAt, passing, verdictOf};
+ghost use Rattle.judging.specs.Judge.{distinct, askedOf, atPeak, resultOf, judgeBy};
+ghost use Rattle.judging.specs.Candidates.{countsIn, seenIn, Candidate, Counted};
 use consolidate::Peak;
 use matching::MatchResult;
 use matching::TimeOffset;
@@ -77,18 +78,26 @@ fn score_at(s: &[i64], a: usize, g: usize, q: WangQuery, centre: i64) -> f32
     matching::score(n, q.q_len as u64)
 }
 
-fn result(score: f32, votes: u64, prominence: f32, mode: i64, fps: f32) -> MatchResult
+// The result of a candidate at its peak.
+pub fn result(
+    score: f32,
+    votes: u64,
+    prominence: f32,
+    frames: i64,
+    fps: f32,
+    time_scale: f32,
+) -> MatchResult
     requires { ⌜ votes < 2 ^ 32 ⌝ }
-    ensures { λ r. ⌜ r ≡ resultAt score votes prominence mode fps ⌝ }
+    ensures { λ r. ⌜ r ≡ resultAt (record { votes = votes; prominence = prominence; score = score }) frames fps «time_scale» ⌝ }
 {
-    let offset = TimeOffset::from_frames(mode, fps);
+    let offset = TimeOffset::from_frames(frames, fps);
     MatchResult {
         is_match: true,
         score,
         votes: votes as u32,
         prominence,
         offset,
-        time_scale: 1.0,
+        time_scale,
     }
 }
 
@@ -104,7 +113,7 @@ fn weigh(
     r_max: u32,
 ) -> Verdict
     requires { ⌜ Counted (now s) a g at n q «r_max» ⌝ }
-    ensures { λ r. ⌜ r ≡ verdictOf (passing (drop 2 (gates q fps (seenIn q «r_max» (now (s .entry)) a g))) (resultOf fps (seenIn q «r_max» (now (s .entry)) a g))) ⌝ }
+    ensures { λ r. ⌜ r ≡ verdictOf (passing (peakGates (askedOf q) (atPeak (seenIn q «r_max» (now (s .entry)) a g))) (resultOf fps (seenIn q «r_max» (now (s .entry)) a g))) ⌝ }
 {
     let cfg = q.cfg;
     let low = wide(q.q_max);
@@ -122,7 +131,7 @@ fn weigh(
     if matching::below_threshold(score, cfg.min_score) {
         return Verdict::Barred;
     }
-    Verdict::Passed(result(score, votes, prominence, peak.mode, fps))
+    Verdict::Passed(result(score, votes, prominence, peak.mode, fps, 1.0))
 }
 
 // A candidate: the g votes from word a on, in order, and its row's rate and r_max. Its bins are written from word `at` on.

@@ -1,20 +1,29 @@
--- Laws of the hashes that ranks name. Assumes nothing.
+-- Laws of the hashes that ranks name, and of their entries in key order. Assumes nothing.
 use mathlib.Core.Path.{_≡_, refl, sym, ap, _∙_}
-use mathlib.Core.List.{List, [], _∷_, _++_, map, map-append}
+use mathlib.Core.Bool.{Bool}
+use mathlib.Core.List.{List, [], _∷_, _++_, map, map-append, append-assoc, append-nil}
 use Prim.Native.Nat.{ℕ, zero, suc, _+_, _*_, _-_, _/_, _%_, _≤_, _<_}
-use native.Mathlib.Nat.{mul-le-mul-left, mul-suc, mul-zero, le-trans}
+use native.Mathlib.Nat.{mul-le-mul-left, mul-suc, le-trans}
+use native.Mathlib.Numerals.{add-one}
 use native.Mathlib.Omega.{arith}
-use lib.IntN.{ℤ, pos}
-use lib.ListN.{length, getD, take}
-use lib.Seq.{take-suc, take-all}
-use Rattle.lists.specs.Lists.{keep, All, sum, flat}
-use Rattle.lists.proofs.Keep.{all-append, all-imp, all-at, all-map, all-both, all-keep, flat-append}
-use Rattle.gathering.specs.Codes.{listed, ranksFrom, placeOf, rankOf, codeOf, codes, inOrder, within, Fit}
+use lib.ListN.{length, getD, take, length-map, length-append}
+use lib.Seq.{take-suc, take-all, length-take-le}
+use Rattle.lists.specs.Lists.{keep, All, sum}
+use Rattle.lists.specs.Every.{count}
+use Rattle.lists.specs.Keys.{placeAll}
+use Rattle.lists.specs.Entries.{keyAt}
+use Rattle.lists.proofs.Tests.{test}
+use Rattle.lists.proofs.Keep.{keep-append, keep-one, keep-nil, keep-map, all-append, all-imp, all-at, all-map, all-both, map-same, map-map}
+use Rattle.lists.proofs.Every.{count-none, count-suc}
+use Rattle.lists.proofs.Place.{all-placeAll}
+use Rattle.gathering.specs.Codes.{listed, ranksFrom, placeOf, rankOf, codeOf, codes, inOrder, Fit}
 use Rattle.gathering.proofs.Sorts.{all-sort}
-use Rattle.gathering.proofs.Ranks.{rank-is, all-listed, listed-same, sum-more, sum-take, ranks-small}
-use Rattle.stopping.proofs.Counting.{word-is, words-many}
-use Rattle.stopping.proofs.Walk.{done, done-none, done-more, sum-few}
-use Rattle.laying.specs.Laid.{entryOf, placeBy, rankAt, Layable, StartsTo}
+use Rattle.gathering.proofs.Ranks.{rank-is, listed-none, listed-same, all-listed, map-listed, ranks-snoc, place-is, sum-none, sum-more, sum-take, ranks-small}
+use Rattle.gathering.proofs.Order.{ordered-is, keep-same}
+use Rattle.stopping.proofs.Walk.{sum-few}
+use Rattle.radix.specs.Digits.{placeBy, keyBy, Readable, Ranks, Keyed}
+use Rattle.radix.proofs.Order.{placeAll-same}
+use Rattle.laying.specs.Laid.{entryOf, entryBy, laidEntries, StartsTo}
 
 -- a rank names a hash of a recording
 pub record Names (lengths : List ℕ) (r : ℕ) : Type 0 where
@@ -52,66 +61,128 @@ pub place-small : (lengths : List ℕ) (r : ℕ) → Names lengths r → placeOf
 unfolding placeOf
 place-small lengths r h = let o = h .off in omega (arith, sum-more lengths (r / 8192) (h .id), sum-take lengths (r / 8192 + 1))
 
-pub listed-map : {B : Type 0} (g : ℕ → B) (cs : List ℕ) (k : ℕ) → k ≤ length cs → listed (λ t. g (getD cs t 0)) k ≡ map g (take k cs)
+module _ (words : List ℕ) (w : ℕ) (lengths : List ℕ) (fit : Fit words (w - 1) lengths) where
+  codes-name : All (λ c. Names lengths (rankOf c)) (codes words (w - 1) lengths)
+  unfolding codes
+  codes-name = all-map (codeOf words (w - 1) lengths) (λ c. Names lengths (rankOf c)) (ranksFrom 0 lengths)
+      (all-imp (λ r. (r < 33554432) × Names lengths r) (λ r. Names lengths (rankOf (codeOf words (w - 1) lengths r))) (λ r h. rw (rank-is words (w - 1) lengths r (h .0)) (h .1)) (ranksFrom 0 lengths)
+      (all-both (λ r. r < 33554432) (Names lengths) (ranksFrom 0 lengths) (ranks-small words (w - 1) lengths fit) (ranks-name lengths (fit .short))))
+
+  pub order-names : All (λ c. Names lengths (rankOf c)) (inOrder words (w - 1) lengths)
+  unfolding inOrder
+  order-names = all-sort (λ c. Names lengths (rankOf c)) (codes words (w - 1) lengths) codes-name
+
+-- ---- arrival order
+
+listed-add : {A : Type 0} (f : ℕ → A) (a b : ℕ) → listed f (a + b) ≡ listed f a ++ listed (λ j. f (a + j)) b
 unfolding listed
-listed-map g cs zero h = refl
-listed-map g cs (suc k) h =
-    ap (λ l. l ++ g (getD cs k 0) ∷ []) (listed-map g cs k (omega arith)) ∙ sym (map-append g (take k cs) (getD cs k 0 ∷ [])) ∙ rw (take-suc cs k 0 (omega arith))
+listed-add f a zero = let e : a + 0 ≡ a = omega arith in rw (e, append-nil)
+listed-add f a (suc b) =
+    let e : a + suc b ≡ suc (a + b) = omega arith in
+    rw e (ap (λ l. l ++ f (a + b) ∷ []) (listed-add f a b) ∙ append-assoc (listed f a) (listed (λ j. f (a + j)) b) (f (a + b) ∷ []))
 
-module _ (words : List ℕ) (w : ℕ) (lengths : List ℕ) where
-  abbrev pub entryC : ℕ → List ℕ
-  entryC c = entryOf words w (placeOf lengths (rankOf c)) (rankOf c / 8192)
+count-listed : (t : ℕ → Bool) (n : ℕ) → length (keep t (listed (λ j. j) n)) ≡ count n t
+unfolding listed
+count-listed t zero = ap length (keep-nil t) ∙ sym (count-none t)
+count-listed t (suc n) =
+    let ih = count-listed t n in
+    rw (keep-append t (listed (λ j. j) n) (n ∷ []), keep-one t n, count-suc t n, length-append) (test (t n) (λ e. rw e (omega arith)) (λ e. rw e (omega arith)))
 
-  module _ (fit : Fit words (w - 1) lengths) where
-    codes-name : All (λ c. Names lengths (rankOf c)) (codes words (w - 1) lengths)
-    unfolding codes
-    codes-name = all-map (codeOf words (w - 1) lengths) (λ c. Names lengths (rankOf c)) (ranksFrom 0 lengths)
-        (all-imp (λ r. (r < 33554432) × Names lengths r) (λ r. Names lengths (rankOf (codeOf words (w - 1) lengths r))) (λ r h. rw (rank-is words (w - 1) lengths r (h .0)) (h .1)) (ranksFrom 0 lengths)
-        (all-both (λ r. r < 33554432) (Names lengths) (ranksFrom 0 lengths) (ranks-small words (w - 1) lengths fit) (ranks-name lengths (fit .short))))
+-- one recording more
+pub ranks-next : (lengths : List ℕ) (i : ℕ) → i < length lengths
+    → ranksFrom 0 (take i lengths) ++ listed (λ j. 8192 * i + j) (getD lengths i 0) ≡ ranksFrom 0 (take (i + 1) lengths)
+ranks-next lengths i h =
+    let e : 0 + length (take i lengths) ≡ i = omega (arith, length-take-le i lengths (omega arith)) in
+    let n = getD lengths i 0 in
+    sym (rw (add-one, take-suc lengths i 0 h, ranks-snoc 0 (take i lengths) n, e))
 
-    pub order-names : All (λ c. Names lengths (rankOf c)) (inOrder words (w - 1) lengths)
-    unfolding inOrder
-    order-names = all-sort (λ c. Names lengths (rankOf c)) (codes words (w - 1) lengths) codes-name
+pub ranks-none : (s : List ℕ) → take 0 s ≡ ranksFrom 0 (take 0 s)
+unfolding ranksFrom
+ranks-none s = refl
 
-    -- what a batch holds can be laid down
-    module _ (starts : List ℕ) (known : StartsTo starts lengths (length lengths)) (buf : List ℤ) (n : ℕ) (cs : List ℕ)
-        (room : n ≤ length buf) (held : take n buf ≡ map pos cs) (names : All (λ c. Names lengths (rankOf c)) cs) where
-      rank-here : (t : ℕ) → t < n → rankAt buf t ≡ rankOf (getD cs t 0)
-      rank-here t h = ap rankOf (word-is buf n cs t held h)
+-- ranks in arrival order name the hashes one after the other
+places-to : (lengths : List ℕ) → All (λ n. n ≤ 8192) lengths → (i : ℕ) → i ≤ length lengths → map (placeOf lengths) (ranksFrom 0 (take i lengths)) ≡ listed (λ j. j) (sum (take i lengths))
+unfolding ranksFrom
+places-to lengths a zero h = rw (sum-none) (sym (listed-none (λ j. j)))
+places-to lengths a (suc i) h =
+    let ih = places-to lengths a i (omega arith) in
+    let short : getD lengths i 0 ≤ 8192 = all-at (λ n. n ≤ 8192) lengths 0 a i (omega arith) in
+    let n = getD lengths i 0 in
+    let start = sum (take i lengths) in
+    rw (← add-one i, ← ranks-next lengths i (omega arith), sum-more lengths i (omega arith), listed-add (λ j. j) start n)
+    (map-append (placeOf lengths) (ranksFrom 0 (take i lengths)) (listed (λ j. 8192 * i + j) n)
+    ∙ ap (λ l. l ++ map (placeOf lengths) (listed (λ j. 8192 * i + j) n)) ih
+    ∙ ap (λ l. listed (λ j. j) start ++ l) (map-listed (placeOf lengths) (λ j. 8192 * i + j) n ∙ listed-same (λ j. placeOf lengths (8192 * i + j)) (λ j. start + j) n (λ j l. place-is lengths i j (omega arith))))
 
-      name-here : (t : ℕ) → t < n → Names lengths (rankAt buf t)
-      name-here t h = rw (rank-here t h) (all-at (λ c. Names lengths (rankOf c)) cs 0 names t (omega (arith, words-many buf n cs held room)))
+places-listed : (lengths : List ℕ) → All (λ n. n ≤ 8192) lengths → map (placeOf lengths) (ranksFrom 0 lengths) ≡ listed (λ j. j) (sum lengths)
+places-listed lengths a = rw (take-all (length lengths) lengths (omega arith)) at (places-to lengths a (length lengths) (omega arith))
 
-      place-here : (t : ℕ) → t < n → placeBy starts (rankAt buf t) ≡ placeOf lengths (rankAt buf t)
-      unfolding placeOf
-      place-here t h = rw (known (rankAt buf t / 8192) (name-here t h .id))
+-- ---- by the recordings' first hashes
 
-      pub layable : Layable words starts w buf n
-      layable = record {
-        held = room;
-        id = λ t h. let few = fit .recordings in omega (arith, name-here t h .id);
-        small = λ t h. rw (known (rankAt buf t / 8192) (name-here t h .id)) (omega (arith, sum-take lengths (rankAt buf t / 8192), sum-few words (w - 1) lengths fit));
-        place = λ t h.
-            let p : suc (placeBy starts (rankAt buf t)) ≤ sum lengths = rw (place-here t h) (place-small lengths (rankAt buf t) (name-here t h)) in
-            rw (mul-suc) at (le-trans (mul-le-mul-left (w - 1) p) (fit .whole));
-      }
+module _ (words : List ℕ) (w : ℕ) (lengths starts : List ℕ) (fit : Fit words (w - 1) lengths) (known : StartsTo starts lengths (length lengths)) where
+  abbrev ranks : List ℕ
+  ranks = ranksFrom 0 lengths
 
-      pub laid-part : listed (λ t. entryOf words w (placeBy starts (rankAt buf t)) (rankAt buf t / 8192)) n ≡ map entryC cs
-      laid-part =
-          listed-same (λ t. entryOf words w (placeBy starts (rankAt buf t)) (rankAt buf t / 8192)) (λ t. entryC (getD cs t 0)) n (λ t h. rw (place-here t h, rank-here t h))
-          ∙ listed-map entryC cs n (omega (arith, words-many buf n cs held room)) ∙ ap (map entryC) (take-all n cs (omega (arith, words-many buf n cs held room)))
+  names : All (Names lengths) (ranksFrom 0 lengths)
+  names = ranks-name lengths (fit .short)
 
-    pub names-part : (lo hi : ℕ) → All (λ c. Names lengths (rankOf c)) (keep (within lo hi) (inOrder words (w - 1) lengths))
-    names-part lo hi = all-keep (λ c. Names lengths (rankOf c)) (within lo hi) (inOrder words (w - 1) lengths) order-names
+  place-by : (r : ℕ) → Names lengths r → placeBy starts r ≡ placeOf lengths r
+  unfolding placeOf
+  place-by r h = rw (known (r / 8192) (h .id))
 
-  -- entries up to a code
-  pub laid-more : (lo hi : ℕ) → lo ≤ hi → flat (map entryC (done words (w - 1) lengths hi))
-      ≡ flat (map entryC (done words (w - 1) lengths lo)) ++ flat (map entryC (keep (within lo hi) (inOrder words (w - 1) lengths)))
-  laid-more lo hi h =
-      ap (λ l. flat (map entryC l)) (done-more words (w - 1) lengths lo hi h)
-      ∙ ap flat (map-append entryC (done words (w - 1) lengths lo) (keep (within lo hi) (inOrder words (w - 1) lengths)))
-      ∙ flat-append (map entryC (done words (w - 1) lengths lo)) (map entryC (keep (within lo hi) (inOrder words (w - 1) lengths)))
+  readable : (r : ℕ) → Names lengths r → Readable words (w - 1) starts r
+  readable r h = record {
+    some = fit .some;
+    id = let few = fit .recordings in omega (arith, h .id);
+    small = rw (known (r / 8192) (h .id)) (omega (arith, sum-take lengths (r / 8192), sum-few words (w - 1) lengths fit));
+    place = let p : suc (placeBy starts r) ≤ sum lengths = rw (place-by r h) (place-small lengths r h) in
+        rw (mul-suc) at (le-trans (mul-le-mul-left (w - 1) p) (fit .whole));
+  }
 
-  pub laid-none : (s : List ℕ) → take (w * 0) s ≡ flat (map entryC (done words (w - 1) lengths 0))
-  unfolding flat
-  laid-none s = rw (mul-zero, done-none words (w - 1) lengths)
+  pub ranks-readable : All (Readable words (w - 1) starts) (ranksFrom 0 lengths)
+  ranks-readable = all-imp (Names lengths) (Readable words (w - 1) starts) readable ranks names
+
+  pub ranks-keyed : Keyed words (w - 1) starts (ranksFrom 0 lengths) (sum lengths)
+  unfolding keyBy
+  ranks-keyed t =
+      let g : ℕ → Bool = λ i. t (keyAt words (w - 1) i) in
+      ap length (keep-same (λ r. g (placeBy starts r)) (λ r. g (placeOf lengths r)) ranks (all-imp (Names lengths) (λ r. g (placeBy starts r) ≡ g (placeOf lengths r)) (λ r h. ap g (place-by r h)) ranks names))
+      ∙ sym (length-map (keep (λ r. g (placeOf lengths r)) ranks) (placeOf lengths))
+      ∙ ap length (sym (keep-map (placeOf lengths) g ranks) ∙ ap (keep g) (places-listed lengths (fit .short)))
+      ∙ count-listed g (sum lengths)
+
+  -- entries of the ranks, sorted by key, are all entries in key order
+  pub laid-ranks : map (entryBy words w starts) (placeAll (keyBy words (w - 1) starts) (ranksFrom 0 lengths) []) ≡ laidEntries words w lengths
+  unfolding laidEntries keyBy
+  laid-ranks =
+      let keyR : ℕ → ℕ = λ r. keyAt words (w - 1) (placeOf lengths r) in
+      let entryR : ℕ → List ℕ = λ r. entryOf words w (placeOf lengths r) (r / 8192) in
+      let sorted : List ℕ = placeAll keyR ranks [] in
+      ap (map (entryBy words w starts)) (placeAll-same (keyBy words (w - 1) starts) keyR ranks (all-imp (Names lengths) (λ r. keyBy words (w - 1) starts r ≡ keyR r) (λ r h. rw (place-by r h)) ranks names))
+      ∙ map-same (entryBy words w starts) entryR sorted (all-imp (Names lengths) (λ r. entryBy words w starts r ≡ entryR r) (λ r h. rw (place-by r h)) sorted (all-placeAll keyR (Names lengths) ranks [] names tt))
+      ∙ ap (map entryR) (sym (ordered-is words (w - 1) lengths fit))
+      ∙ map-map entryR rankOf (inOrder words (w - 1) lengths)
+
+  -- ---- the same of words that are these ranks
+
+  module _ (m : ℕ) (posts : List ℕ) (many : m ≡ sum lengths) (held : take m posts ≡ ranksFrom 0 lengths) where
+    pub ranks-held : m ≤ length posts → Ranks words (w - 1) starts posts 0 m
+    ranks-held room = record {
+      some = fit .some;
+      few = omega (arith, many, sum-few words (w - 1) lengths fit);
+      whole = rw many (fit .whole);
+      room = omega arith;
+      readable = rw held ranks-readable;
+    }
+
+    pub keyed-held : Keyed words (w - 1) starts (take m posts) m
+    keyed-held = rw (held, many) ranks-keyed
+
+    sorted-held : (rs : List ℕ) → rs ≡ placeAll (keyBy words (w - 1) starts) (take m posts) [] → rs ≡ placeAll (keyBy words (w - 1) starts) (ranksFrom 0 lengths) []
+    sorted-held rs e = e ∙ ap (λ (l : List ℕ). placeAll (keyBy words (w - 1) starts) l []) held
+
+    pub sorted-readable : (rs : List ℕ) → rs ≡ placeAll (keyBy words (w - 1) starts) (take m posts) [] → All (Readable words (w - 1) starts) rs
+    sorted-readable rs e = rw (sorted-held rs e) (all-placeAll (keyBy words (w - 1) starts) (Readable words (w - 1) starts) ranks [] ranks-readable tt)
+
+    pub sorted-laid : (rs : List ℕ) → rs ≡ placeAll (keyBy words (w - 1) starts) (take m posts) [] → map (entryBy words w starts) rs ≡ laidEntries words w lengths
+    sorted-laid rs e = ap (map (entryBy words w starts)) (sorted-held rs e) ∙ laid-ranks

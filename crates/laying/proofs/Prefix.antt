@@ -1,9 +1,9 @@
 -- Laws of what a list begins with, after stores behind it. Assumes nothing.
 use mathlib.Core.Path.{_≡_, refl, ap, _∙_}
 use mathlib.Core.Logic.{_⊎_, inl, inr}
-use mathlib.Core.List.{List, [], _∷_, _++_, append-assoc, append-nil}
+use mathlib.Core.List.{List, [], _∷_, _++_, map, map-append, append-assoc, append-nil}
 use Prim.Native.Nat.{ℕ, suc, _+_, _*_, _-_, _≤_, _<_}
-use native.Mathlib.Nat.{mul-suc}
+use native.Mathlib.Nat.{mul-zero, mul-suc, suc-mul, mul-le-mul-left}
 use native.Mathlib.Numerals.{add-one}
 use native.Mathlib.Omega.{arith}
 use lib.ListN.{length, getD, take, drop, set, replicate, length-set, length-drop}
@@ -13,7 +13,7 @@ use Rattle.lists.proofs.Keep.{flat-append, flat-one}
 use Rattle.postings.specs.Retain.{cleared}
 use Rattle.gathering.specs.Codes.{listed}
 use Rattle.gathering.proofs.Ranks.{listed-more}
-use Rattle.laying.specs.Laid.{StartsTo}
+use Rattle.laying.specs.Laid.{SameFrom, StartsTo}
 
 -- a word more behind what the list begins with
 pub put-behind : (s : List ℕ) (at x : ℕ) (front : List ℕ) → at < length s → take at s ≡ front → take (at + 1) (set s at x) ≡ front ++ x ∷ []
@@ -33,6 +33,10 @@ copy-more dst₀ dst to src from j h k e =
     take-suc (drop from src) j 0 (rw length-drop (omega arith)) ∙ ap (λ y. take j (drop from src) ++ y ∷ []) (getD-drop from src j 0) in
     rw (a, add-one j, q) (put-behind dst (to + j) x (take to dst₀ ++ take j (drop from src)) h e ∙ append-assoc (take to dst₀) (take j (drop from src)) (x ∷ []))
 
+-- a word stored before what stays
+pub same-more : (a : ℕ) (s₀ s : List ℕ) (at x : ℕ) → at < a → SameFrom a s₀ s → SameFrom a s₀ (set s at x)
+same-more a s₀ s at x h f i l = getD-set-other s at i x 0 (λ e. omega arith) ∙ f i l
+
 -- ---- two and four words
 
 pub put-two : (s : List ℕ) (at a b : ℕ) → at + 1 < length s → take (at + 2) (set (set s at a) (at + 1) b) ≡ take at s ++ a ∷ b ∷ []
@@ -51,19 +55,39 @@ put-four s at a b c d h =
     let p = put-two s₂ (at + 2) c d (omega (arith, l)) in
     rw (x, y) at p ∙ ap (λ m. m ++ c ∷ d ∷ []) (put-two s at a b (omega arith)) ∙ append-assoc (take at s) (a ∷ b ∷ []) (c ∷ d ∷ [])
 
+-- ---- numbers, one behind the other
+
+module _ (f : ℕ → ℕ) where
+  pub fill-none : (s : List ℕ) (to : ℕ) → take (to + 0) s ≡ take to s ++ listed f 0
+  unfolding listed
+  fill-none s to = let e : to + 0 ≡ to = omega arith in rw (e, append-nil)
+
+  pub fill-more : (s₀ s : List ℕ) (to j : ℕ) → to + j < length s → take (to + j) s ≡ take to s₀ ++ listed f j → take (to + (j + 1)) (set s (to + j) (f j)) ≡ take to s₀ ++ listed f (j + 1)
+  fill-more s₀ s to j h e =
+      let a : to + (j + 1) ≡ to + j + 1 = omega arith in
+      rw (a, listed-more f j) (put-behind s (to + j) (f j) (take to s₀ ++ listed f j) h e ∙ append-assoc (take to s₀) (listed f j) (f j ∷ []))
+
 -- ---- entries, one behind the other
 
-module _ (f : ℕ → List ℕ) (w : ℕ) where
-  pub lay-none : (s : List ℕ) (q : ℕ) → take (w * (q + 0)) s ≡ take (w * q) s ++ flat (listed f 0)
-  unfolding listed flat
-  lay-none s q = let e : q + 0 ≡ q = omega arith in rw (e, append-nil)
+module _ (f : ℕ → List ℕ) (w : ℕ) (rs : List ℕ) where
+  pub lay-none : (s : List ℕ) → take (w * 0) s ≡ flat (map f (take 0 rs))
+  unfolding flat
+  lay-none s = rw mul-zero
 
-  pub lay-more : (s₀ s s′ : List ℕ) (q t : ℕ) → take (w * (q + t)) s ≡ take (w * q) s₀ ++ flat (listed f t) → take (w * (q + t) + w) s′ ≡ take (w * (q + t)) s ++ f t
-      → take (w * (q + (t + 1))) s′ ≡ take (w * q) s₀ ++ flat (listed f (t + 1))
-  lay-more s₀ s s′ q t e g =
-      let a : q + (t + 1) ≡ suc (q + t) = omega arith in
-      rw (a, mul-suc w (q + t), listed-more f t, flat-append (listed f t) (f t ∷ []), flat-one (f t))
-      (g ∙ ap (λ l. l ++ f t) e ∙ append-assoc (take (w * q) s₀) (flat (listed f t)) (f t))
+  pub lay-more : (s s′ : List ℕ) (t : ℕ) → t < length rs → take (w * t) s ≡ flat (map f (take t rs)) → take (w * t + w) s′ ≡ take (w * t) s ++ f (getD rs t 0)
+      → take (w * (t + 1)) s′ ≡ flat (map f (take (t + 1) rs))
+  lay-more s s′ t h e g =
+      let r = getD rs t 0 in
+      rw (add-one t, mul-suc w t, take-suc rs t 0 h, map-append f (take t rs) (r ∷ []), flat-append (map f (take t rs)) (f r ∷ []), flat-one (f r)) (g ∙ ap (λ l. l ++ f r) e)
+
+-- the words of m entries, and the ranks in the last of them
+pub words-of : (w m : ℕ) → 1 ≤ w → w * m ≡ (w - 1) * m + m
+words-of w m h = let e : w ≡ suc (w - 1) = omega arith in ap (λ k. k * m) e ∙ suc-mul (w - 1) m
+
+-- entry t ends before the rank behind its own, where the ranks end with entry m
+pub entry-ends : (w m t : ℕ) → 1 ≤ w → t < m → w * t + w ≤ (w - 1) * m + (t + 1)
+entry-ends w m t h l =
+    omega (arith, words-of w (suc t) h, mul-suc w t, mul-le-mul-left (w - 1) l)
 
 -- ---- zeros
 
@@ -87,6 +111,10 @@ pub entry-done : (p p′ : List ℕ) (w to key id : ℕ) (rest : List ℕ) → 2
 entry-done p p′ w to key id rest h l e =
     let a : to + 2 + (w - 2) ≡ to + w = omega arith in
     rw a at e ∙ ap (λ m. m ++ rest) (put-two p to key id (omega arith)) ∙ append-assoc (take to p) (key ∷ id ∷ []) rest
+
+pub entry-same : (p p′ : List ℕ) (w to key id : ℕ) → 2 ≤ w → SameFrom (to + 2 + (w - 2)) (set (set p to key) (to + 1) id) p′ → SameFrom (to + w) p p′
+entry-same p p′ w to key id h f i l =
+    f i (omega arith) ∙ getD-set-other (set p to key) (to + 1) i id 0 (λ e. omega arith) ∙ getD-set-other p to i key 0 (λ e. omega arith)
 
 -- ---- rows, one behind the other
 

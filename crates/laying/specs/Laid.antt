@@ -2,12 +2,11 @@
 use mathlib.Core.Path.{_≡_}
 use mathlib.Core.List.{List, _∷_, map}
 use mathlib.Core.Option.{some}
-use Prim.Native.Nat.{ℕ, _+_, _*_, _-_, _/_, _%_, _≤_, _<_}
-use lib.IntN.{ℤ, pos}
-use lib.ListN.{length, getD, take, drop}
+use Prim.Native.Nat.{ℕ, _+_, _*_, _-_, _/_, _≤_, _<_}
+use lib.ListN.{getD, take, drop}
 use Rattle.lists.specs.Lists.{sum}
 use Rattle.lists.specs.Entries.{keyAt}
-use Rattle.maps.specs.Words.{natOf}
+use Rattle.radix.specs.Digits.{placeBy}
 use Rattle.gathering.specs.Codes.{rankOf, placeOf, inOrder}
 use Rattle.model.specs.Fingerprints.{hashesOf}
 use Rattle.model.specs.Rows.{rowOf}
@@ -17,20 +16,13 @@ use Rattle.model.specs.Words.{rowWords}
 abbrev pub entryOf : List ℕ → ℕ → ℕ → ℕ → List ℕ
 entryOf words w i id = keyAt words (w - 1) i ∷ id ∷ take (w - 2) (drop ((w - 1) * i + 1) words)
 
--- which hash a rank names, by the recordings' first hashes
-abbrev pub placeBy : List ℕ → ℕ → ℕ
-placeBy starts r = getD starts (r / 8192) 0 + r % 8192
+-- that of the hash that a rank names, by the recordings' first hashes
+abbrev pub entryBy : List ℕ → ℕ → List ℕ → ℕ → List ℕ
+entryBy words w starts r = entryOf words w (placeBy starts r) (r / 8192)
 
--- the rank in word t of a buffer
-abbrev pub rankAt : List ℤ → ℕ → ℕ
-rankAt buf t = rankOf (natOf (getD buf t (pos 0)))
-
--- the ranks in a buffer name hashes
-pub record Layable (words starts : List ℕ) (w : ℕ) (buf : List ℤ) (n : ℕ) : Type 0 where
-  pub held : n ≤ length buf
-  pub id : (t : ℕ) → t < n → rankAt buf t / 8192 < 4096
-  pub small : (t : ℕ) → t < n → getD starts (rankAt buf t / 8192) 0 ≤ 33554432
-  pub place : (t : ℕ) → t < n → (w - 1) * placeBy starts (rankAt buf t) + (w - 1) ≤ length words
+-- from place a on the words are as they were
+abbrev pub SameFrom : ℕ → List ℕ → List ℕ → Type 0
+SameFrom a s s′ = (i : ℕ) → a ≤ i → getD s′ i 0 ≡ getD s i 0
 
 -- all entries, in key order and within a key in arrival order
 unfoldable pub laidEntries : List ℕ → ℕ → List ℕ → List (List ℕ)

@@ -1,21 +1,23 @@
 // Hashes laid down as entries in key order, and the rows of their recordings.
 ghost use mathlib.Core.Path.{_≡_};
 ghost use mathlib.Core.Bool.{cond};
-ghost use mathlib.Core.List.{[], _∷_, _++_};
-ghost use Prim.Native.Nat.{_+_, _*_, _-_, _/_, _≤_};
+ghost use mathlib.Core.List.{[], _∷_, _++_, map};
+ghost use Prim.Native.Nat.{_+_, _*_, _-_, _≤_};
 ghost use lib.ListN.{length, take, drop, getD, replicate};
-ghost use Rattle.lists.specs.Lists.{sum, flat};
-ghost use Rattle.gathering.specs.Codes.{Fit, listed};
+ghost use Rattle.lists.specs.Lists.{sum, flat, All};
+ghost use Rattle.gathering.specs.Codes.{Fit, listed, ranksFrom};
+ghost use Rattle.radix.specs.Digits.{Readable};
 ghost use Rattle.model.specs.Fingerprints.{hashesOf};
 ghost use Rattle.model.specs.Rows.{isWang, largestAnchor};
-ghost use Rattle.laying.specs.Laid.{entryOf, placeBy, rankAt, Layable, laidEntries, StartsTo, rowFor};
+ghost use Rattle.laying.specs.Laid.{entryOf, entryBy, SameFrom, laidEntries, StartsTo, rowFor};
 use postings::at;
 use rows::size;
 
 // n words of src from `from` on go to dst at `to`.
 fn copy_words(dst: &mut [u32], to: usize, src: &[u32], from: usize, n: usize)
     requires { ⌜ (to + n ≤ length (now dst)) × (from + n ≤ length (now src)) ⌝ }
-    ensures { λ _. ⌜ take (to + n) (now (dst .exit)) ≡ take to (now (dst .entry)) ++ take n (drop from (now (src .entry))) ⌝ }
+    ensures { λ _. ⌜ (take (to + n) (now (dst .exit)) ≡ take to (now (dst .entry)) ++ take n (drop from (now (src .entry))))
+        × SameFrom (to + n) (now (dst .entry)) (now (dst .exit)) ⌝ }
 {
     let mut j = 0;
     while j < n {
@@ -27,7 +29,8 @@ fn copy_words(dst: &mut [u32], to: usize, src: &[u32], from: usize, n: usize)
 // Hash i becomes entry e, for recording id.
 fn lay_entry(posts: &mut [u32], w: usize, e: usize, hashes: &[u32], i: usize, id: u32)
     requires { ⌜ (2 ≤ w) × (w * e + w ≤ length (now posts)) × ((w - 1) * i + (w - 1) ≤ length (now hashes)) ⌝ }
-    ensures { λ _. ⌜ take (w * e + w) (now (posts .exit)) ≡ take (w * e) (now (posts .entry)) ++ entryOf (now (hashes .entry)) w i id ⌝ }
+    ensures { λ _. ⌜ (take (w * e + w) (now (posts .exit)) ≡ take (w * e) (now (posts .entry)) ++ entryOf (now (hashes .entry)) w i id)
+        × SameFrom (w * e + w) (now (posts .entry)) (now (posts .exit)) ⌝ }
 {
     let to = w * e;
     let from = (w - 1) * i;
@@ -50,50 +53,60 @@ fn fill_starts(starts: &mut [u32; 4096], lengths: &[u32])
     }
 }
 
-// The hashes whose codes are in the buffer become entries, from entry q on.
-fn lay_batch(
-    posts: &mut [u32],
-    w: usize,
-    q: usize,
-    hashes: &[u32],
-    starts: &[u32; 4096],
-    buf: &[i64],
-    n: usize,
-)
-    requires { ⌜ (2 ≤ w) × (w * (q + n) ≤ length (now posts)) × Layable (now hashes) (now starts) w (now buf) n ⌝ }
-    ensures { λ _. ⌜ take (w * (q + n)) (now (posts .exit)) ≡ take (w * q) (now (posts .entry))
-        ++ flat (listed (λ t. entryOf (now (hashes .entry)) w (placeBy (now (starts .entry)) (rankAt (now (buf .entry)) t)) (rankAt (now (buf .entry)) t / 8192)) n) ⌝ }
+// n numbers, from `base` on, go to the words from `to` on.
+fn fill_part(posts: &mut [u32], to: usize, base: usize, n: usize)
+    requires { ⌜ (to + n ≤ length (now posts)) × (base + n ≤ 33554432) ⌝ }
+    ensures { λ _. ⌜ take (to + n) (now (posts .exit)) ≡ take to (now (posts .entry)) ++ listed (λ j. base + j) n ⌝ }
 {
+    let mut j = 0;
+    while j < n {
+        posts[to + j] = (base + j) as u32;
+        j += 1;
+    }
+}
+
+// The first words become the ranks of all hashes, in arrival order. Yields how many they are.
+fn fill_ranks(posts: &mut [u32], lengths: &[u32]) -> usize
+    requires { ⌜ (sum (now lengths) ≤ length (now posts)) × (length (now lengths) ≤ 4096) × All (λ n. n ≤ 8192) (now lengths) ⌝ }
+    ensures { λ r. ⌜ (r ≡ sum (now (lengths .entry))) × (take r (now (posts .exit)) ≡ ranksFrom 0 (now (lengths .entry))) ⌝ }
+{
+    let mut m = 0;
+    let mut i = 0;
+    while i < lengths.len() {
+        let n = size(at(lengths, i));
+        fill_part(posts, m, 8192 * i, n);
+        m += n;
+        i += 1;
+    }
+    m
+}
+
+// The m ranks that end with entry m become entries, the first one first: an entry never reaches a rank that is still to be read.
+fn lay_ranks(posts: &mut [u32], w: usize, m: usize, hashes: &[u32], starts: &[u32; 4096])
+    requires { ⌜ (2 ≤ w) × (w * m ≤ length (now posts)) × All (Readable (now hashes) (w - 1) (now starts)) (take m (drop ((w - 1) * m) (now posts))) ⌝ }
+    ensures { λ _. ⌜ take (w * m) (now (posts .exit))
+        ≡ flat (map (entryBy (now (hashes .entry)) w (now (starts .entry))) (take m (drop ((w - 1) * m) (now (posts .entry))))) ⌝ }
+{
+    let first = (w - 1) * m;
     let mut t = 0;
-    while t < n {
-        let r = (maps::word_at(buf, t) % 33554432) as usize;
-        let id = r / 8192;
-        let i = size(starts[id]) + r % 8192;
-        lay_entry(posts, w, q + t, hashes, i, id as u32);
+    while t < m {
+        let r = posts[first + t];
+        lay_entry(posts, w, t, hashes, radix::place(starts, r), r / 8192);
         t += 1;
     }
 }
 
-// All hashes become entries, in key order.
+// All hashes become entries, in key order: their ranks are sorted in the entries' words first.
 pub fn lay_all(posts: &mut [u32], w: usize, hashes: &[u32], lengths: &[u32])
     requires { ⌜ (3 ≤ w) × (w ≤ 5) × Fit (now hashes) (w - 1) (now lengths) × (w * sum (now lengths) ≤ length (now posts)) ⌝ }
     ensures { λ _. ⌜ take (w * sum (now (lengths .entry))) (now (posts .exit)) ≡ flat (laidEntries (now (hashes .entry)) w (now (lengths .entry))) ⌝ }
 {
     let v = w - 1;
-    let mut buf = [0i64; 40960];
     let mut starts = [0u32; 4096];
     fill_starts(&mut starts, lengths);
-    let mut q = 0;
-    let mut lo = 0;
-    let mut width = 0x200_0000_0000_0000;
-    while lo < 0x200_0000_0000_0000 {
-        let g = gathering::batch(&mut buf, hashes, v, lengths, lo, width);
-        let n = g.n;
-        lay_batch(posts, w, q, hashes, &starts, &buf, n);
-        q += n;
-        width = gathering::next_width(g.hi - lo, n);
-        lo = g.hi;
-    }
+    let m = fill_ranks(posts, lengths);
+    radix::sort_ranks(posts, m, hashes, v, &starts);
+    lay_ranks(posts, w, m, hashes, &starts);
 }
 
 // Zeros from a on.

@@ -2,6 +2,7 @@ pub mod Members
 pub mod Taken
 pub mod Pasted
 pub mod Writing
+pub mod Back
 pub mod Merging
 pub mod Runs
 pub mod Weighing

@@ -1,20 +1,18 @@
 -- The gathered votes, sorted: what the walk over the candidates asks of them. Assumes nothing.
 use mathlib.Core.Path.{_≡_, sym, ap, _∙_, subst}
-use mathlib.Core.Bool.{true}
 use mathlib.Core.List.{List, [], _∷_, map, map-append}
 use Prim.Native.Nat.{ℕ, suc, _+_, _*_, _-_, _^_, _≤_, _<_}
 use native.Mathlib.Omega.{arith}
-use lib.IntN.{ℤ, pos, negsuc}
+use lib.IntN.{ℤ, pos}
 use lib.ListN.{length, getD, take, length-map}
 use lib.Seq.{getD-take}
 use lib.Signed.{leZ}
 use lib.Dec.{eqb}
-use borrow.Author.Tests.{leb-true}
 use Rattle.lists.specs.Lists.{All}
 use Rattle.lists.specs.Entries.{entries, keyOf}
 use Rattle.lists.proofs.Keep.{all-at, all-keep, all-imp, all-both, all-append, all-map}
 use Rattle.lists.proofs.Entries.{all-entries, entry-word, length-entries}
-use Rattle.maps.specs.Words.{natOf}
+use Rattle.bins.proofs.Above.{above-le}
 use Rattle.bins.proofs.Votes.{packed-recording, packed-place}
 use Rattle.sorting.specs.Sort.{sortZ}
 use Rattle.sorting.proofs.Order.{all-sort}
@@ -56,11 +54,6 @@ small-entries p ps h = all-entries (λ e. getD e 2 0 < 2 ^ 32) 3 p ps (λ i lt. 
 pub low-entries : (m : ℕ) (hs : List ℕ) (top : ℕ) → ((i : ℕ) → i < m → getD hs (2 * i + 1) 0 ≤ top) → All (λ h. getD h 1 0 ≤ top) (entries 2 m hs)
 low-entries m hs top h = all-entries (λ e. getD e 1 0 ≤ top) 2 m hs (λ i lt. rw (entry-word 2 i hs 1 (omega arith)) (h i lt))
 
-nat-le : (x y : ℤ) → leZ x y ≡ true → natOf x ≤ natOf y
-nat-le (pos a) (pos b) e = leb-true a b e
-nat-le (pos a) (negsuc b) e = let z : _≡_ {A = ℕ} 0 1 = cc in absurd (omega arith)
-nat-le (negsuc a) y e = omega arith
-
 module _ (rs ps hs : List ℕ) (q : WangQuery) (P : Posted rs ps hs q) (bits : (i : ℕ) → getD ps i 0 < 2 ^ 32) where
   abbrev zs : List ℤ
   zs = wordsIn q rs ps hs
@@ -80,7 +73,7 @@ module _ (rs ps hs : List ℕ) (q : WangQuery) (P : Posted rs ps hs q) (bits : (
     pub sorted-votes : Votes rs s v q
     sorted-votes = record {
       limits = P .limits;
-      ascend = λ i j h k. rw (word-is i (omega arith), word-is j k) (nat-le (getD (sortZ zs) i (pos 0)) (getD (sortZ zs) j (pos 0)) (ascending zs i j h (omega (arith, words-long))));
+      ascend = λ i j h k. rw (word-is i (omega arith), word-is j k) (above-le 0 (getD (sortZ zs) i (pos 0)) (getD (sortZ zs) j (pos 0)) (ascending zs i j h (omega (arith, words-long))));
       spanned = λ t h. subst (Spanned rs (q .«q_max»)) (sym (word-is t h))
           (all-at (Spanned rs (q .«q_max»)) (sortZ zs) (pos 0) (all-sort leZ (Spanned rs (q .«q_max»)) zs spanned) t (omega (arith, length-sortZ zs, words-long)));
       few = few;

@@ -10,15 +10,16 @@ use lib.ListN.{length, getD, take, drop, length-drop, length-map}
 use lib.Seq.{take-take, getD-take, ext-getD, length-take-le}
 use Rattle.lists.specs.Lists.{keep}
 use Rattle.lists.proofs.Tests.{le-or-lt}
-use Rattle.maps.specs.Words.{natOf, SameOutside}
-use Rattle.bins.specs.Votes.{leadOf, places, Run}
+use Rattle.maps.specs.Words.{SameOutside}
+use Rattle.bins.specs.Votes.{above, leadOf, places, Run}
 use Rattle.matching.specs.declared.MatchResult.{MatchResult}
 use Rattle.model.specs.Query.{trackBest}
 use Rattle.model.specs.Soundness.{rowWord}
 use Rattle.judging.specs.declared.WangQuery.{WangQuery}
 use Rattle.judging.specs.declared.Verdict.{Verdict}
 use Rattle.judging.specs.Judge.{judgeBy}
-use Rattle.judging.specs.Candidates.{voteIn, votesIn, countsIn, Candidate, verdictOf}
+use Rattle.judging.specs.Gates.{verdictOf}
+use Rattle.judging.specs.Candidates.{voteIn, votesIn, countsIn, Candidate}
 use Rattle.querying.specs.Candidates.{rowAt, judgedBy, candidateIn, resultIn, bestIn, Spanned, Votes}
 use Rattle.querying.proofs.Ranks.{best-none, best-more}
 use Rattle.querying.proofs.Judged.{judged-some}
@@ -80,7 +81,7 @@ pub judged-all : (rs : List ℕ) (s₀ s : List ℤ) (v : ℕ) (q : WangQuery) (
 judged-all rs s₀ s v q best J = J .found ∙ ap (bestIn q rs) (J .kept)
 
 module _ (rs : List ℕ) (s₀ s : List ℤ) (v : ℕ) (q : WangQuery) (best : Option (ℕ × MatchResult)) (i : ℕ) (J : Judged rs s₀ s v q best i) (h : i < v)
-    (e : ℕ) (R : Run (λ (t : ℕ). leadOf 44 (getD s t (pos 0))) i v e) where
+    (e : ℕ) (R : Run (λ (t : ℕ). leadOf 0 44 (getD s t (pos 0))) i v e) where
   abbrev x : ℕ
   x = recordingAt s i
 
@@ -88,7 +89,7 @@ module _ (rs : List ℕ) (s₀ s : List ℤ) (v : ℕ) (q : WangQuery) (best : O
   W = J .votes
 
   rising : (a b : ℕ) → a < b → b < v → recordingAt s a ≤ recordingAt s b
-  rising a b lt k = recording-le (natOf (getD s a (pos 0))) (natOf (getD s b (pos 0))) (W .ascend a b lt k)
+  rising a b lt k = recording-le (above 0 (getD s a (pos 0))) (above 0 (getD s b (pos 0))) (W .ascend a b lt k)
 
   fits : e ≤ length s
   fits = omega (arith, R .within, W .room)

@@ -8,8 +8,7 @@ use lib.ListN.{length, getD}
 use lib.Dec.{eqb, ltb}
 use Rattle.lists.specs.Lists.{keep, All}
 use Rattle.lists.specs.Entries.{entries}
-use Rattle.maps.specs.Words.{natOf}
-use Rattle.bins.specs.Votes.{recordingOf, placeOf}
+use Rattle.bins.specs.Votes.{above, recordingOf, placeOf}
 use Rattle.matching.specs.declared.MatchResult.{MatchResult}
 use Rattle.model.specs.Rows.{Row}
 use Rattle.model.specs.Query.{bestBelow}
@@ -83,7 +82,7 @@ pub record Spanned (rs : List ℕ) (top : ℕ) (z : ℤ) : Type 0 where
 -- the first v words are votes in ascending order, and there are as many words for the sort and twice as many for bins
 pub record Votes (rs : List ℕ) (s : List ℤ) (v : ℕ) (q : WangQuery) : Type 0 where
   pub limits : Limits rs q
-  pub ascend : (i j : ℕ) → i < j → j < v → natOf (getD s i (pos 0)) ≤ natOf (getD s j (pos 0))
+  pub ascend : (i j : ℕ) → i < j → j < v → above 0 (getD s i (pos 0)) ≤ above 0 (getD s j (pos 0))
   pub spanned : (t : ℕ) → t < v → Spanned rs (q .«q_max») (getD s t (pos 0))
   pub few : v ≤ 1000000
   pub room : 4 * v ≤ length s

@@ -4,3 +4,4 @@ pub mod Counting
 pub mod Stops
 pub mod Stopping
 pub mod Walk
+pub mod Few

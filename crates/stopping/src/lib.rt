@@ -3,7 +3,7 @@ ghost use mathlib.Core.Path.{_≡_};
 ghost use mathlib.Core.Bool.{true, cond};
 ghost use mathlib.Core.List.{List, _++_, map};
 ghost use Prim.Native.Nat.{ℕ, _+_, _*_, _-_, _≤_, _<_};
-ghost use lib.Dec.{eqb};
+ghost use lib.Dec.{eqb, ltb};
 ghost use lib.IntN.{pos};
 ghost use lib.ListN.{length, take};
 ghost use Rattle.lists.specs.Lists.{flat};
@@ -81,6 +81,17 @@ pub fn over_count(hashes: &[u32], v: usize, lengths: &[u32], limit: usize) -> us
         lo = g.hi;
     }
     st.over
+}
+
+// Whether more than `room` keys are over the limit. Of m hashes at most m / (limit + 1) keys are: with room for those, none is counted.
+pub fn over_room(hashes: &[u32], v: usize, lengths: &[u32], limit: usize, room: usize) -> bool
+    requires { ⌜ Fit (now hashes) v (now lengths) × (limit < 0x1_0000_0000) ⌝ }
+    ensures { λ r. ⌜ r ≡ ltb room (length (overKeys limit (map keyIn (inOrder (now (hashes .entry)) v (now (lengths .entry)))))) ⌝ }
+{
+    if hashes.len() / v / (limit + 1) <= room {
+        return false;
+    }
+    room < over_count(hashes, v, lengths, limit)
 }
 
 // Where the entries with the key of entry i end.

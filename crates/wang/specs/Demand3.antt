@@ -1,12 +1,13 @@
 -- Demand 3 for WangIndex: what a new recording, or a removal, can do to the answers of a query. Definitions only. Assumes nothing.
 --
 -- In the audiologist's words. Every row of your sheets was written under the list that the box named. In spring you add four lists. Play
--- an old recording of a session again: the box names the list that it named before, or it names one of the four new lists, and then
--- only because that new list itself has a match that passes every gate and ranks above the old one (a higher score; at equal scores a
+-- an old recording of a session again, and the box names the list that it named before, or it names one of the four new lists; a new
+-- one only because that list itself has a match that passes every gate and ranks above the old one (a higher score; at equal scores a
 -- higher prominence; at equal prominences a lower number). It never moves a row from one old list to another, and never to "none". When
--- you take a list out, the rows that named other lists, or none, stay as they are. There is one exception, and the box says when it
--- applies: if a new list is so like the old ones that a key of theirs now has more entries than the limit, the key is stopped, and
--- rows that rested on it may read differently.
+-- you take a list out, the rows that named other lists, or none, stay as they are. Two things are to be known with this. If the new
+-- lists bring more votes than the box has room for, it refuses the query (R 8) and names nothing. And if a new list is so like the
+-- old ones that a key of theirs now has more entries than the limit, that key is stopped, and rows that rested on it may read
+-- differently; the store's count of stopped keys then has grown, and as long as it has not, no old row is touched.
 --
 -- The engineer's words for this are in crate `model`, specs/Claim.antt: `Claim` is one statement over any list of build, insert, remove,
 -- live_count and query calls, refused ones included, made one after the other on any three slices of words. What is live, held and

@@ -31,7 +31,8 @@ use Rattle.model.specs.Words.{Words, sizesOf, sizesListed, listed, rowEntries, 
 use Rattle.model.specs.Soundness.{countsFit, liveWord, stoppedStep, deadRow, otherEntry, vacantEntry, deadFine, rateFine, liveId, postingLive, anchorFine, rmaxFine, otherKey, keyUnstopped, entryUnused, soundTests, soundWords}
 use Rattle.model.specs.Run.{storeOf, runBuild, runInsert, runRemove, runQuery, run}
 use Rattle.model.specs.History.{leaves}
-use Rattle.judging.specs.Judge.{modeWithin, peakOf, distinct, seenOf, gates, resultAt, judgeBy}
+use Rattle.judging.specs.Gates.{peakGates, gates, resultAt}
+use Rattle.judging.specs.Judge.{modeWithin, peakOf, distinct, seenOf, judgeBy}
 use Rattle.judging.specs.Scheme.{beyond, judge, wang}
 
 -- ---- the calls
@@ -126,5 +127,5 @@ table =
     ∷ []
 
 pub examples : T (all table)
-unfolding leaves runBuild runInsert runRemove runQuery storeOf listed sizesListed sizesOf soundWords soundTests countsFit liveWord stoppedStep deadRow otherEntry vacantEntry deadFine rateFine liveId postingLive anchorFine rmaxFine otherKey keyUnstopped entryUnused readIndex write rowEntries every count allTrue entries keysAscend zeroWord zeroFrom padded keep some? flat sum insertKey place placeAll buildStep insertStep removeStep queryStep buildTests insertTests plainTests queryTests scratchListed numbered inserted builtFrom erased exceeds stopKeys hashesOf divided malformed malformedBuild rowOf canonical isCanonical largestAnchor gather tooManyVotes candidate bestBelow better modeWithin peakOf distinct seenOf gates resultAt judgeBy beyond judge counting.count sumTo sumToℤ greatest first firstGreatest runEnd mode peakOver millis ratesAgree clampScore wangProminence scoreOf roundToI64 abs maximum nanBits ofBits add sub mul div le lt ofInt isNan round
+unfolding leaves runBuild runInsert runRemove runQuery storeOf listed sizesListed sizesOf soundWords soundTests countsFit liveWord stoppedStep deadRow otherEntry vacantEntry deadFine rateFine liveId postingLive anchorFine rmaxFine otherKey keyUnstopped entryUnused readIndex write rowEntries every count allTrue entries keysAscend zeroWord zeroFrom padded keep some? flat sum insertKey place placeAll buildStep insertStep removeStep queryStep buildTests insertTests plainTests queryTests scratchListed numbered inserted builtFrom erased exceeds stopKeys hashesOf divided malformed malformedBuild rowOf canonical isCanonical largestAnchor gather tooManyVotes candidate bestBelow better modeWithin peakOf distinct seenOf peakGates gates resultAt judgeBy beyond judge counting.count sumTo sumToℤ greatest first firstGreatest runEnd mode peakOver millis ratesAgree clampScore wangProminence scoreOf roundToI64 abs maximum nanBits ofBits add sub mul div le lt ofInt isNan round
 examples = tt

@@ -11,10 +11,10 @@ use Rattle.bins.proofs.run_end.Statement.{statement}
 use Rattle.bins.proofs.run_end.Tie as tie
 
 abbrev Inv-loop : tie.InvT-loop
-Inv-loop s i e bits x r₀ r = (i < r) × (r ≤ e) × ((t : ℕ) → i ≤ t → t < r → leadOf bits (getD s t (pos 0)) ≡ leadOf bits (getD s i (pos 0)))
+Inv-loop s i e low bits x r₀ r = (i < r) × (r ≤ e) × ((t : ℕ) → i ≤ t → t < r → leadOf low bits (getD s t (pos 0)) ≡ leadOf low bits (getD s i (pos 0)))
 
 abbrev μ-loop : tie.MeasureT-loop
-μ-loop s i e bits x r₀ r = e - r
+μ-loop s i e low bits x r₀ r = e - r
 
 lead-at-requires : tie.Need-lead-at-requires Inv-loop μ-loop
 lead-at-requires c κs = search needs
@@ -27,7 +27,7 @@ loop-holds c =
     let a = c .before .args in (
       omega arith,
       omega arith,
-      λ t h k. let e : t ≡ a .i = omega arith in ap (λ (u : ℕ). leadOf (a .bits) (getD (a .s .now) u (pos 0))) e,
+      λ t h k. let e : t ≡ a .i = omega arith in ap (λ (u : ℕ). leadOf (a .low) (a .bits) (getD (a .s .now) u (pos 0))) e,
     )
 
 lead-at-requires-2 : tie.Need-lead-at-requires-2 Inv-loop μ-loop
@@ -48,7 +48,7 @@ loop-again c =
     let l = c .before .before .before .loop in (
       omega arith,
       omega arith,
-      next-from (λ t. leadOf (a .bits) (getD (a .s .now) t (pos 0)) ≡ leadOf (a .bits) (getD (a .s .now) (a .i) (pos 0))) (a .i) (l .r) (l .inv .2)
+      next-from (λ t. leadOf (a .low) (a .bits) (getD (a .s .now) t (pos 0)) ≡ leadOf (a .low) (a .bits) (getD (a .s .now) (a .i) (pos 0))) (a .i) (l .r) (l .inv .2)
           (sym (c .before .lead-at2 .ensures) ∙ c .if1 .left ∙ c .before .before .before .before .lead-at .ensures),
     )
 

@@ -1,11 +1,10 @@
 -- `building::refusal_of` meets its contract. Assumes nothing.
 use borrow.Author.Needs.{needs}
 use native.Mathlib.Omega.{arith}
-use mathlib.Core.Path.{_≡_, sym, ap, _∙_}
+use mathlib.Core.Path.{_≡_, sym, _∙_}
 use mathlib.Core.Bool.{true, false}
 use Prim.Native.Nat.{_-_, _/_, _≤_}
 use lib.ListN.{length}
-use lib.Dec.{ltb}
 use borrow.Author.Tests.{not-true, not-false, lt-ltb, le-ltb}
 use Rattle.gathering.specs.Codes.{Fit}
 use Rattle.model.specs.Fingerprints.{malformedBuild}
@@ -105,8 +104,8 @@ returns-4 c =
 size-requires : tie.Need-size-requires
 size-requires c κs = search needs
 
-over-count-requires : tie.Need-over-count-requires
-over-count-requires c κs =
+over-room-requires : tie.Need-over-room-requires
+over-room-requires c κs =
     (fit (c .before .before), omega (arith, c .size .ensures, c .before .before .before .before .before .before .before .before .before .before .before .before .before .fits .limit))
 
 returns-5 : tie.Need-returns-5
@@ -117,10 +116,10 @@ returns-5 c =
     let t = rows-test (a .w) (a .refs .now) (a .posts .now) (a .stops .now) (a .limit) (a .hashes .now) (a .lengths .now) (a .rates .now) (well E) in
     let u = postings-test (a .w) (a .refs .now) (a .posts .now) (a .stops .now) (a .limit) (a .hashes .now) (a .lengths .now) (a .rates .now) (well E) in
     let v = stopped-test (a .w) (a .refs .now) (a .posts .now) (a .stops .now) (a .limit) (a .hashes .now) (a .lengths .now) (a .rates .now) (well E) (o E .pre .0) (fit F) in
-    let r = rw (c .before .before .size .ensures) at (c .before .over-count .ensures) in
+    let r = rw (c .before .before .size .ensures) at (c .before .over-room .ensures) in
     sym (rung-7 (a .w) (m E) (a .limit) (a .hashes .now) (a .lengths .now) (a .rates .now) (is-listed E) (well E) (t ∙ le-ltb ((length (a .refs .now) - 4) / 4) (length (a .lengths .now)) (rows-fit F))
     (u ∙ le-ltb (length (a .posts .now) / a .w) (length (a .hashes .now) / (a .w - 1)) (c .before .before .before .if4 .left))
-    (v ∙ ap (ltb (length (a .stops .now))) (sym r) ∙ lt-ltb (length (a .stops .now)) (c .before .over-count .result) (c .if5 .taken)))
+    (v ∙ sym r ∙ c .if5 .taken))
 
 returns-6 : tie.Need-returns-6
 returns-6 c =
@@ -130,10 +129,10 @@ returns-6 c =
     let t = rows-test (a .w) (a .refs .now) (a .posts .now) (a .stops .now) (a .limit) (a .hashes .now) (a .lengths .now) (a .rates .now) (well E) in
     let u = postings-test (a .w) (a .refs .now) (a .posts .now) (a .stops .now) (a .limit) (a .hashes .now) (a .lengths .now) (a .rates .now) (well E) in
     let v = stopped-test (a .w) (a .refs .now) (a .posts .now) (a .stops .now) (a .limit) (a .hashes .now) (a .lengths .now) (a .rates .now) (well E) (o E .pre .0) (fit F) in
-    let r = rw (c .before .before .size .ensures) at (c .before .over-count .ensures) in
+    let r = rw (c .before .before .size .ensures) at (c .before .over-room .ensures) in
     sym (rung-0 (a .w) (m E) (a .limit) (a .hashes .now) (a .lengths .now) (a .rates .now) (is-listed E) (well E) (t ∙ le-ltb ((length (a .refs .now) - 4) / 4) (length (a .lengths .now)) (rows-fit F))
     (u ∙ le-ltb (length (a .posts .now) / a .w) (length (a .hashes .now) / (a .w - 1)) (c .before .before .before .if4 .left))
-    (v ∙ ap (ltb (length (a .stops .now))) (sym r) ∙ le-ltb (length (a .stops .now)) (c .before .over-count .result) (c .if5 .left)))
+    (v ∙ sym r ∙ c .if5 .left))
 
 pub refusal-of-spec : {M : Type 1} → statement M
 refusal-of-spec =
@@ -150,6 +149,6 @@ refusal-of-spec =
     div-if4-2
     returns-4
     size-requires
-    over-count-requires
+    over-room-requires
     returns-5
     returns-6)

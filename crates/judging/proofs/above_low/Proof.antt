@@ -1,3 +1,4 @@
+-- `judging::above_low` meets its contract. Assumes nothing.
 use native.Mathlib.Omega.{arith}
 use mathlib.Core.Path.{_≡_, refl}
 use lib.IntN.{pos, _+ℤ_}

@@ -1,15 +1,22 @@
-use mathlib.Core.Path.{_≡_, sym, ap, _∙_}
-use Prim.Native.Nat.{_<_, _^_}
+-- `judging::weigh` meets its contract. Assumes nothing.
+use mathlib.Core.Path.{_≡_, refl, sym, ap, _∙_}
+use Prim.Native.Nat.{_≤_, _<_, _^_}
 use native.Mathlib.Omega.{arith}
-use lib.IntN.{ℤ}
+use lib.Ieee.{binary32, ofBits}
+use Rattle.floats.specs.Selection.{one}
 use Rattle.maps.proofs.Words.{word, read-is}
 use Rattle.consolidate.specs.declared.Peak.{Peak}
-use Rattle.judging.specs.Judge.{Seen, seenOf, resultAt}
+use Rattle.judging.specs.Judge.{Seen, seenOf, askedOf, atPeak, resultOf}
 use Rattle.judging.specs.Candidates.{seenIn}
-use Rattle.judging.proofs.Gates.{span-is, peak-found, prominence-found, peak-total, peak-few, centre-up, centre-few, bar-peak, bar-prominence, bar-score, pass-all}
+use Rattle.judging.proofs.Gates.{span-is, peak-found, prominence-found, peak-total, peak-few, centre-up, centre-few}
+use Rattle.judging.proofs.Passing.{bar-peak, bar-prominence, bar-score, pass-all, peak-is, result-same}
 use borrow.Author.Needs.{needs}
 use Rattle.judging.proofs.weigh.Statement.{statement}
 use Rattle.judging.proofs.weigh.Tie as tie
+
+one-is : ofBits binary32 1065353216 ≡ one
+unfolding ofBits
+one-is = refl
 
 -- ---- the places
 
@@ -62,6 +69,9 @@ scored : (c : tie.After-score-at) → c .score-at .result ≡ seen (first (secon
 unfolding seenOf
 scored c = rw (centre-read (c .before)) at (c .score-at .ensures)
 
+votes-found : (c : tie.After-peak-of) → c .peak-of .result .votes ≡ seen (start (c .before)) .peak .votes
+votes-found c = ap (λ (p : Peak). p .votes) (found c)
+
 -- ---- the needs
 
 wide-requires : tie.Need-wide-requires
@@ -89,7 +99,7 @@ wide-requires-4 c κs = search needs
 returns : tie.Need-returns
 returns c =
     let o = start (c .before .before .before) in
-    bar-peak (o .args .q) (o .args .fps) (seen o) (c .before .before .peak-of .result) (found (c .before .before)) (omega (arith, c .if1 .taken, c .before .wide4 .ensures))
+    bar-peak (askedOf (o .args .q)) (atPeak (seen o)) (resultOf (o .args .fps) (seen o)) (c .before .before .peak-of .result .votes) (votes-found (c .before .before)) (omega (arith, c .if1 .taken, c .before .wide4 .ensures))
 
 add-wang-prominence : tie.Need-add-wang-prominence
 add-wang-prominence c = search needs
@@ -109,7 +119,7 @@ returns-2 : tie.Need-returns-2
 returns-2 c =
     let e = c .before .before .before in
     let o = first e in
-    bar-prominence (o .args .q) (o .args .fps) (seen o) (swept e .peak-of .result) (found (swept e)) (omega (arith, e .if1 .left, e .before .wide4 .ensures))
+    bar-prominence (askedOf (o .args .q)) (atPeak (seen o)) (resultOf (o .args .fps) (seen o)) (swept e .peak-of .result .votes) (votes-found (swept e)) (omega (arith, e .if1 .left, e .before .wide4 .ensures))
     (c .before .before .wang-prominence .result) (prominent (c .before .before)) (sym (c .before .below-threshold .ensures) ∙ c .if2 .taken)
 
 score-at-requires : tie.Need-score-at-requires
@@ -133,7 +143,7 @@ returns-3 c =
     let f = d .before .before in
     let e = second f in
     let o = first e in
-    bar-score (o .args .q) (o .args .fps) (seen o) (swept e .peak-of .result) (found (swept e)) (omega (arith, e .if1 .left, e .before .wide4 .ensures))
+    bar-score (askedOf (o .args .q)) (atPeak (seen o)) (resultOf (o .args .fps) (seen o)) (swept e .peak-of .result .votes) (votes-found (swept e)) (omega (arith, e .if1 .left, e .before .wide4 .ensures))
     (f .before .before .wang-prominence .result) (prominent (f .before .before)) (sym (f .before .below-threshold .ensures) ∙ f .if2 .left)
     (d .score-at .result) (scored d) (sym (c .before .below-threshold2 .ensures) ∙ c .if3 .taken)
 
@@ -151,10 +161,17 @@ returns-4 c =
     let e = second f in
     let o = first e in
     let p : Peak = swept e .peak-of .result in
-    pass-all (o .args .q) (o .args .fps) (seen o) p (found (swept e)) (omega (arith, e .if1 .left, e .before .wide4 .ensures))
-    (f .before .before .wang-prominence .result) (prominent (f .before .before)) (sym (f .before .below-threshold .ensures) ∙ f .if2 .left)
+    let k = askedOf (o .args .q) in
+    let r = resultOf (o .args .fps) (seen o) in
+    let enough : o .args .q .cfg .«min_votes» ≤ p .votes = omega (arith, e .if1 .left, e .before .wide4 .ensures) in
+    let clear = sym (f .before .below-threshold .ensures) ∙ f .if2 .left in
+    pass-all k (atPeak (seen o)) r (p .votes) (votes-found (swept e)) enough (f .before .before .wang-prominence .result) (prominent (f .before .before)) clear
     (d .score-at .result) (scored d) (sym (g .before .below-threshold2 .ensures) ∙ g .if3 .left)
-    (c .result .result) (c .result .ensures ∙ ap (λ (z : ℤ). resultAt (d .score-at .result) (p .votes) (f .before .before .wang-prominence .result) z (o .args .fps)) (read-is (p .mode) (c .before .struct-told2 .given .1 .1 .0 .1)))
+    (c .result .result)
+    (c .result .ensures
+    ∙ result-same _ (atPeak (seen o)) _ (seen o .peak .mode) (o .args .fps) _ one
+    (peak-is k (atPeak (seen o)) r (p .votes) (votes-found (swept e)) enough (f .before .before .wang-prominence .result) (prominent (f .before .before)) clear (d .score-at .result) (scored d))
+    (read-is (p .mode) (c .before .struct-told2 .given .1 .1 .0 .1) ∙ ap (λ (x : Peak). x .mode) (found (swept e))) one-is)
 
 pub weigh-spec : {M : Type 1} → statement M
 weigh-spec =

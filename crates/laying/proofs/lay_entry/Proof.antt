@@ -4,7 +4,7 @@ use native.Mathlib.Omega.{arith}
 use mathlib.Core.Path.{_∙_}
 use Prim.Native.Nat.{_+_, _*_, _-_}
 use lib.ListN.{take, drop, length-set}
-use Rattle.laying.proofs.Prefix.{entry-done}
+use Rattle.laying.proofs.Prefix.{entry-done, entry-same}
 use Rattle.laying.proofs.lay_entry.Statement.{statement}
 use Rattle.laying.proofs.lay_entry.Tie as tie
 
@@ -57,8 +57,10 @@ returns : tie.Need-returns
 returns c =
     let s = c .before .before .before .before .before .before .before in
     let a = s .args in
-    let d = entry-done (a .posts .now) (c .before .before .copy-words .last .0) (a .w) (a .w * a .e) (c .before .before .before .before .at .result) (a .id) (take (a .w - 2) (drop ((a .w - 1) * a .i + 1) (a .hashes .now))) (s .pre .0) (s .pre .1) (c .before .before .copy-words .ensures) in
-    rw (c .before .before .before .before .at .ensures) at d
+    let x = c .before .before .before .before .at in
+    let g = c .before .before .copy-words in
+    let d = entry-done (a .posts .now) (g .last .0) (a .w) (a .w * a .e) (x .result) (a .id) (take (a .w - 2) (drop ((a .w - 1) * a .i + 1) (a .hashes .now))) (s .pre .0) (s .pre .1) (g .ensures .0) in
+    (rw (x .ensures) at d, entry-same (a .posts .now) (g .last .0) (a .w) (a .w * a .e) (x .result) (a .id) (s .pre .0) (g .ensures .1))
 
 pub lay-entry-spec : {M : Type 1} → statement M
 lay-entry-spec =

@@ -1,0 +1,100 @@
+-- `panako_judging::count_sorted` meets its contract: the first `i` votes are binned. Assumes nothing.
+use Prim.Native.Nat.{_-_}
+use Rattle.panako_judging.proofs.Binning.{Binning, binning-none, run-on, run-within, binning-more, binning-all}
+use borrow.Author.Needs.{needs}
+use native.Mathlib.Omega.{arith}
+use Rattle.panako_judging.proofs.count_sorted.Statement.{statement}
+use Rattle.panako_judging.proofs.count_sorted.Tie as tie
+
+abbrev Inv-loop : tie.InvT-loop
+Inv-loop s₀ a g at i₀ n₀ s i n = Binning s₀ s a g at i n
+
+abbrev μ-loop : tie.MeasureT-loop
+μ-loop s₀ a g at i₀ n₀ s i n = g - i
+
+loop-holds : tie.Need-loop-holds Inv-loop μ-loop
+loop-holds c = binning-none (c .args .s .now) (c .args .a) (c .args .g) (c .args .at)
+
+add-code-at : tie.Need-add-code-at Inv-loop μ-loop
+add-code-at c = search needs
+
+code-at-requires : tie.Need-code-at-requires Inv-loop μ-loop
+code-at-requires c κs = search needs
+
+add-run-end : tie.Need-add-run-end Inv-loop μ-loop
+add-run-end c = search needs
+
+add-run-end-2 : tie.Need-add-run-end-2 Inv-loop μ-loop
+add-run-end-2 c = search needs
+
+run-end-requires : tie.Need-run-end-requires Inv-loop μ-loop
+run-end-requires c κs = search needs
+
+sub-r : tie.Need-sub-r Inv-loop μ-loop
+sub-r c = search needs
+
+mul-put-bin : tie.Need-mul-put-bin Inv-loop μ-loop
+mul-put-bin c = search needs
+
+add-put-bin : tie.Need-add-put-bin Inv-loop μ-loop
+add-put-bin c = search needs
+
+sub-put-bin : tie.Need-sub-put-bin Inv-loop μ-loop
+sub-put-bin c = search needs
+
+put-bin-requires : tie.Need-put-bin-requires Inv-loop μ-loop
+put-bin-requires c κs = search needs
+
+add-n : tie.Need-add-n Inv-loop μ-loop
+add-n c = search needs
+
+loop-less : tie.Need-loop-less Inv-loop μ-loop
+loop-less c =
+    let o = c .before .before .before .before .before .before .before .before .before in
+    let a = o .args in
+    let l = c .before .before .before .before .before .before .before .before .loop in
+    omega (
+      arith,
+      run-on (a .s .now) (l .s) (a .a) (a .g) (a .at) (l .i) (l .n) _ (o .pre) (l .inv) (omega arith) (c .before .before .before .run-end .ensures),
+      run-within (a .s .now) (l .s) (a .a) (a .g) (a .at) (l .i) (l .n) _ (o .pre) (l .inv) (omega arith) (c .before .before .before .run-end .ensures),
+    )
+
+loop-again : tie.Need-loop-again Inv-loop μ-loop
+loop-again c =
+    let o = c .before .before .before .before .before .before .before .before .before in
+    let a = o .args in
+    let l = c .before .before .before .before .before .before .before .before .loop in
+    binning-more (a .s .now) (l .s) (a .a) (a .g) (a .at) (l .i) (l .n) _ (o .pre) (l .inv) (omega arith) (c .before .before .before .run-end .ensures)
+    (c .before .put-bin .last .0) _ (c .before .before .before .before .before .code-at .ensures .0) (c .before .put-bin .ensures)
+
+same-length : tie.Need-same-length Inv-loop μ-loop
+same-length c = c .before .loop .inv .len
+
+returns : tie.Need-returns Inv-loop μ-loop
+returns c =
+    let a = c .before .before .args in
+    let l = c .before .loop in
+    binning-all (a .s .now) (l .s) (a .a) (a .g) (a .at) (l .i) (l .n) (omega arith) (l .inv)
+
+pub count-sorted-spec : {M : Type 1} → statement M
+count-sorted-spec =
+    tie.close
+    (tie.spec
+    Inv-loop
+    μ-loop
+    loop-holds
+    add-code-at
+    code-at-requires
+    add-run-end
+    add-run-end-2
+    run-end-requires
+    sub-r
+    mul-put-bin
+    add-put-bin
+    sub-put-bin
+    put-bin-requires
+    add-n
+    loop-less
+    loop-again
+    same-length
+    returns)

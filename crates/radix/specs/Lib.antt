@@ -1,0 +1,2 @@
+-- Ranks and the digits of their keys.
+pub mod Digits
