@@ -2,13 +2,18 @@
 //! what an accepted call does; what it doesn't know, which stores are sound
 //! and which calls are refused, is told here, in document 01's words.
 
-use crate::capi::{Answer, NAN_F32};
-use crate::harness::answer;
+use crate::capi::{Answer, NAN_F32, Settings};
+use crate::harness::{answer, word32};
 use crate::store::{Index, Sizes, Store, read, write};
+use audiofp::matching::MatchResult;
 use std::collections::BTreeSet;
 
 /// Reference fingerprints have at most so many hashes.
 pub const HASHES: usize = 8192;
+/// Queries have at most so many.
+pub const QUERY_HASHES: usize = 2048;
+/// Scratch is for at most so many votes.
+pub const VOTES: usize = 1_000_000;
 
 #[derive(Clone, Debug)]
 pub enum Call {
@@ -27,6 +32,17 @@ pub enum Call {
         id: u32,
     },
     LiveCount,
+    Query(Query),
+}
+
+#[derive(Clone, Debug)]
+pub struct Query {
+    pub hashes: Vec<u32>,
+    pub rate: u32,
+    pub settings: Settings,
+    /// Words of scratch, and what fills them before the call.
+    pub scratch: usize,
+    pub fill: u64,
 }
 
 pub fn built() -> Answer {
@@ -43,6 +59,24 @@ pub fn removed(yes: bool) -> Answer {
 
 pub fn counted(live: usize) -> Answer {
     answer([3, live as u64])
+}
+
+/// Best with its result, or none.
+pub fn found(best: Option<(usize, MatchResult)>) -> Answer {
+    let Some((id, result)) = best else {
+        return answer([5]);
+    };
+    assert!(result.is_match, "the reference answers with matches alone");
+    [
+        4,
+        id as u64,
+        result.votes.into(),
+        word32(result.score),
+        word32(result.prominence),
+        result.offset.frames as u64,
+        result.offset.ms as u64,
+        word32(result.time_scale),
+    ]
 }
 
 pub fn refused(number: u64) -> Answer {
@@ -169,6 +203,7 @@ impl<I: Index> Account<I> {
             }
             Call::Remove { id } => removed(self.index().remove(*id as usize)),
             Call::LiveCount => return counted(self.index().live_count()),
+            Call::Query(query) => return found(self.best(query, &query.settings)),
         };
         // "stopped keys after the call would exceed K": the reference says
         // how many they are. Its index is then that of the store again.
@@ -184,13 +219,54 @@ impl<I: Index> Account<I> {
         self.index.as_mut().expect("the store is sound")
     }
 
-    /// The lowest number of document 01's table that applies, up to 6.
+    /// What the reference answers to the query, with these settings.
+    pub fn best(&self, query: &Query, settings: &Settings) -> Option<(usize, MatchResult)> {
+        let index = self.index.as_ref().expect("the store is sound");
+        best_of(index, query, settings)
+    }
+
+    /// Likewise, had the recording `id` been removed before.
+    pub fn best_without(&self, query: &Query, id: usize) -> Option<(usize, MatchResult)> {
+        let index = self.index.as_ref().expect("the store is sound");
+        let mut rest = I::of(index.content());
+        assert!(rest.remove(id), "the best recording is live");
+        best_of(&rest, query, &query.settings)
+    }
+
+    /// The postings by which the hashes of a query vote, a posting for each
+    /// vote.
+    pub fn voters(&self, query: &Query) -> impl Iterator<Item = &[u32]> {
+        let p = self.store.header()[2] as usize;
+        let hashes = query.hashes.chunks_exact(I::HASH);
+        hashes.flat_map(move |hash| {
+            let postings = self.store.postings.chunks_exact(I::WIDTH).take(p);
+            postings.filter(move |posting| {
+                posting[0] == hash[0] && I::is_vote(&query.settings, hash, posting)
+            })
+        })
+    }
+
+    /// Whether a key is stopped in a sound store.
+    pub fn is_stopped(&self, key: u32) -> bool {
+        self.index
+            .as_ref()
+            .is_some_and(|index| index.is_stopped(key))
+    }
+
+    /// The lowest number of document 01's table that applies, but for 7.
     fn refusal(&self, call: &Call) -> Option<u64> {
         // "a store or scratch slice's length is none of those listed at the
         // end"
         let Some(sizes) = self.sizes else {
             return Some(1);
         };
+        // "6 words a vote (Wang), 12 (Panako), whole votes only, 0 to
+        // 1,000,000 votes"
+        if let Call::Query(Query { scratch, .. }) = call
+            && (scratch % I::VOTE != 0 || scratch / I::VOTE > VOTES)
+        {
+            return Some(1);
+        }
         // "store unsound (not for build)"
         if !self.is_sound() && !matches!(call, Call::Build { .. }) {
             return Some(2);
@@ -236,6 +312,29 @@ impl<I: Index> Account<I> {
                 (p + m > sizes.postings).then_some(6)
             }
             Call::Remove { .. } | Call::LiveCount => None,
+            Call::Query(query) => {
+                // "query 0 to 2,048"
+                if is_odd(&query.hashes) || query.hashes.len() / I::HASH > QUERY_HASHES {
+                    return Some(3);
+                }
+                // "query setting beyond its limit, after `normalize_config`"
+                if I::is_beyond(&query.settings) {
+                    return Some(4);
+                }
+                // "query gathers more votes than its scratch holds"
+                (self.voters(query).count() > query.scratch / I::VOTE).then_some(8)
+            }
         }
     }
+}
+
+fn best_of<I: Index>(
+    index: &I,
+    query: &Query,
+    settings: &Settings,
+) -> Option<(usize, MatchResult)> {
+    index.query(
+        &I::fingerprint(&query.hashes, query.rate),
+        &I::config(settings),
+    )
 }

@@ -1,7 +1,7 @@
 //! Lists of calls on lent stores of every size: random ones, and document
 //! 01's examples.
 
-use crate::account::{Call, HASHES, built, counted, refused, removed, stored};
+use crate::account::{Call, HASHES, Query, built, counted, refused, removed, stored};
 use crate::capi::Answer;
 use crate::harness::{Check, Rng, Run};
 use crate::store::{Content, HEADER, Index, Panako, Posting, ROW, Sizes, Store, Wang, write};
@@ -70,63 +70,12 @@ fn some_limit(rng: &mut Rng) -> u32 {
 
 /// `count` hashes with keys of `keys`.
 pub fn some_hashes<I: Index>(rng: &mut Rng, count: usize, keys: &[u32]) -> Vec<u32> {
-    let mut hashes = Vec::with_capacity(I::HASH * count);
-    for _ in 0..count {
-        hashes.push(rng.pick(keys));
-        hashes.extend((1..I::HASH).map(|_| some_time(rng)));
-    }
-    hashes
+    Source::any(Sizes::MOST, keys, 0).hashes::<I>(rng, count)
 }
 
-/// A sound store of any content, also such as no list of calls leaves.
+/// A sound store of any content.
 pub fn some_store<I: Index>(rng: &mut Rng, sizes: Sizes, keys: &[u32]) -> Store {
-    let n = rng.below(sizes.rows as u64 + 1) as u32;
-    let live: Vec<bool> = (0..n).map(|_| rng.below(3) > 0).collect();
-    let (alive, mut vacant): (Vec<u32>, Vec<u32>) = (0..n).partition(|&id| live[id as usize]);
-    for place in (1..vacant.len()).rev() {
-        vacant.swap(place, rng.below(place as u64 + 1) as usize);
-    }
-    let mut row = |&live: &bool| match live {
-        true => (f32::from_bits(some_rate(rng)), some_time(rng)),
-        false => (f32::NAN, 0),
-    };
-    let (fps, mut r_max): (Vec<f32>, Vec<u32>) = live.iter().map(&mut row).unzip();
-    let mut stopped: BTreeSet<u32> = keys.iter().copied().collect();
-    stopped.retain(|_| rng.below(4) == 0);
-    let stopped: BTreeSet<u32> = stopped.into_iter().take(sizes.stopped).collect();
-    let is_free = |key: &u32| !stopped.contains(key);
-    let free: Vec<u32> = keys.iter().copied().filter(is_free).collect();
-    let mut map: BTreeMap<u32, Vec<I::Posting>> = BTreeMap::new();
-    if !alive.is_empty() && !free.is_empty() {
-        for _ in 0..rng.below(sizes.postings as u64 + 1) {
-            let id = rng.pick(&alive);
-            let most = r_max[id as usize];
-            let mut words = [id, 0, 0, 0, 0];
-            words[1..].fill_with(|| some_time(rng));
-            if I::HAS_R_MAX {
-                words[1] = match rng.below(2) {
-                    0 => most,
-                    _ => words[1].min(most),
-                };
-            }
-            map.entry(rng.pick(&free))
-                .or_default()
-                .push(I::Posting::of(&words));
-        }
-    }
-    if !I::HAS_R_MAX {
-        r_max.clear();
-    }
-    let content = Content::<I> {
-        map: map.into_iter().collect(),
-        fps,
-        r_max,
-        live,
-        vacant,
-        live_count: alive.len(),
-        stopped: stopped.into_iter().collect(),
-    };
-    write::<I>(&content, sizes)
+    Source::any(sizes, keys, 0).store::<I>(rng)
 }
 
 /// Words of every kind, seldom a sound store.
@@ -143,16 +92,118 @@ fn noise<I: Index>(rng: &mut Rng, sizes: Sizes) -> Store {
 }
 
 /// What random calls are made of.
-struct Source<'a> {
-    sizes: Sizes,
-    keys: &'a [u32],
+pub struct Source<'a> {
+    pub sizes: Sizes,
+    pub keys: &'a [u32],
+    /// Times of hashes and rates to pick from; of every kind, if none.
+    pub times: &'a [u32],
+    pub rates: &'a [u32],
     /// The limit of every call, or one for each.
-    limit: Option<u32>,
+    pub limit: Option<u32>,
     /// Hashes of a call, but for those that fill the store.
-    most: u64,
+    pub most: u64,
 }
 
-impl Source<'_> {
+impl<'a> Source<'a> {
+    /// Times, rates and limits of every kind.
+    pub fn any(sizes: Sizes, keys: &'a [u32], most: u64) -> Self {
+        Self {
+            sizes,
+            keys,
+            times: &[],
+            rates: &[],
+            limit: None,
+            most,
+        }
+    }
+
+    pub fn time(&self, rng: &mut Rng) -> u32 {
+        match self.times {
+            [] => some_time(rng),
+            times => rng.pick(times),
+        }
+    }
+
+    pub fn rate(&self, rng: &mut Rng) -> u32 {
+        match self.rates {
+            [] => some_rate(rng),
+            rates => rng.pick(rates),
+        }
+    }
+
+    /// The times of a hash; those of a Panako hash mostly ascend.
+    fn times<I: Index>(&self, rng: &mut Rng) -> Vec<u32> {
+        let mut times: Vec<u32> = (1..I::HASH).map(|_| self.time(rng)).collect();
+        if rng.below(4) > 0 {
+            times.sort_unstable();
+        }
+        times
+    }
+
+    pub fn hashes<I: Index>(&self, rng: &mut Rng, count: usize) -> Vec<u32> {
+        let mut hashes = Vec::with_capacity(I::HASH * count);
+        for _ in 0..count {
+            hashes.push(rng.pick(self.keys));
+            hashes.extend(self.times::<I>(rng));
+        }
+        hashes
+    }
+
+    /// A sound store of any content, also such as no list of calls leaves.
+    pub fn store<I: Index>(&self, rng: &mut Rng) -> Store {
+        let Sizes {
+            rows,
+            postings,
+            stopped: most_stopped,
+        } = self.sizes;
+        let n = rng.below(rows as u64 + 1) as u32;
+        let live: Vec<bool> = (0..n).map(|_| rng.below(3) > 0).collect();
+        let (alive, mut vacant): (Vec<u32>, Vec<u32>) = (0..n).partition(|&id| live[id as usize]);
+        for place in (1..vacant.len()).rev() {
+            vacant.swap(place, rng.below(place as u64 + 1) as usize);
+        }
+        let mut row = |&live: &bool| match live {
+            true => (f32::from_bits(self.rate(rng)), self.time(rng)),
+            false => (f32::NAN, 0),
+        };
+        let (fps, mut r_max): (Vec<f32>, Vec<u32>) = live.iter().map(&mut row).unzip();
+        let mut stopped: BTreeSet<u32> = self.keys.iter().copied().collect();
+        stopped.retain(|_| rng.below(4) == 0);
+        let stopped: BTreeSet<u32> = stopped.into_iter().take(most_stopped).collect();
+        let is_free = |key: &u32| !stopped.contains(key);
+        let free: Vec<u32> = self.keys.iter().copied().filter(is_free).collect();
+        let mut map: BTreeMap<u32, Vec<I::Posting>> = BTreeMap::new();
+        if !alive.is_empty() && !free.is_empty() {
+            for _ in 0..rng.below(postings as u64 + 1) {
+                let id = rng.pick(&alive);
+                let most = r_max[id as usize];
+                let mut words = [vec![id], self.times::<I>(rng)].concat();
+                if I::HAS_R_MAX {
+                    words[1] = match rng.below(2) {
+                        0 => most,
+                        _ => words[1].min(most),
+                    };
+                }
+                map.entry(rng.pick(&free))
+                    .or_default()
+                    .push(I::Posting::of(&words));
+            }
+        }
+        if !I::HAS_R_MAX {
+            r_max.clear();
+        }
+        let content = Content::<I> {
+            map: map.into_iter().collect(),
+            fps,
+            r_max,
+            live,
+            vacant,
+            live_count: alive.len(),
+            stopped: stopped.into_iter().collect(),
+        };
+        write::<I>(&content, self.sizes)
+    }
+
     fn limit(&self, rng: &mut Rng) -> u32 {
         self.limit.unwrap_or_else(|| some_limit(rng))
     }
@@ -167,7 +218,8 @@ impl Source<'_> {
         }
     }
 
-    fn call<I: Index>(&self, rng: &mut Rng, store: &Store) -> Call {
+    /// Any call but a query.
+    pub fn call<I: Index>(&self, rng: &mut Rng, store: &Store) -> Call {
         let [n, _, p, _] = store.header();
         match rng.below(16) {
             0 => Call::LiveCount,
@@ -178,24 +230,27 @@ impl Source<'_> {
                 },
             },
             5..7 => self.build::<I>(rng),
-            _ => {
-                let room = self.sizes.postings.saturating_sub(p as usize);
-                let count = self.count(rng, room);
-                let mut hashes = some_hashes::<I>(rng, count, self.keys);
-                if rng.below(24) == 0 {
-                    let odd = 1 + rng.below(I::HASH as u64) as usize;
-                    hashes.truncate(hashes.len().saturating_sub(odd));
-                }
-                Call::Insert {
-                    hashes,
-                    rate: some_rate(rng),
-                    limit: self.limit(rng),
-                }
-            }
+            _ => self.insert::<I>(rng, p as usize),
         }
     }
 
-    fn build<I: Index>(&self, rng: &mut Rng) -> Call {
+    /// An insertion into a store of `p` postings.
+    pub fn insert<I: Index>(&self, rng: &mut Rng, p: usize) -> Call {
+        let room = self.sizes.postings.saturating_sub(p);
+        let count = self.count(rng, room);
+        let mut hashes = self.hashes::<I>(rng, count);
+        if rng.below(24) == 0 {
+            let odd = 1 + rng.below(I::HASH as u64) as usize;
+            hashes.truncate(hashes.len().saturating_sub(odd));
+        }
+        Call::Insert {
+            hashes,
+            rate: self.rate(rng),
+            limit: self.limit(rng),
+        }
+    }
+
+    pub fn build<I: Index>(&self, rng: &mut Rng) -> Call {
         let rows = self.sizes.rows as u64;
         let refs = match rng.below(8) {
             0 => rows,
@@ -203,13 +258,13 @@ impl Source<'_> {
             _ => 1 + rng.below(rows),
         };
         let count = self.count(rng, self.sizes.postings);
-        let mut hashes = some_hashes::<I>(rng, count, self.keys);
+        let mut hashes = self.hashes::<I>(rng, count);
         let mut lengths = vec![0_u32; refs as usize];
         for _ in 0..count {
             let most = 1 + rng.below(refs);
             lengths[rng.below(most) as usize] += 1;
         }
-        let mut rates: Vec<u32> = lengths.iter().map(|_| some_rate(rng)).collect();
+        let mut rates: Vec<u32> = lengths.iter().map(|_| self.rate(rng)).collect();
         if rng.below(3) == 0 {
             let [a, b] = [(); 2].map(|()| rng.below(refs) as usize);
             match rng.below(8) {
@@ -236,15 +291,17 @@ impl Source<'_> {
         }
     }
 
-    /// A list of calls on an empty store, a sound one, or noise.
-    fn list<I: Index>(&self, check: &mut Check, met: &mut Met, calls: usize) {
-        let rng = &mut check.rng;
-        let start = match rng.below(8) {
+    /// An empty store, a sound one, or noise.
+    pub fn start<I: Index>(&self, rng: &mut Rng) -> Store {
+        match rng.below(8) {
             0 => noise::<I>(rng, self.sizes),
             1..4 => Store::zeroed::<I>(self.sizes),
-            _ => some_store::<I>(rng, self.sizes, self.keys),
-        };
-        let mut trial = Trial::<I>::new(start);
+            _ => self.store::<I>(rng),
+        }
+    }
+
+    fn list<I: Index>(&self, check: &mut Check, met: &mut Met, calls: usize) {
+        let mut trial = Trial::<I>::new(self.start::<I>(&mut check.rng));
         for _ in 0..calls {
             let call = match trial.is_sound() {
                 // Only a build is of use there.
@@ -265,11 +322,11 @@ fn small_stores<I: Index>(check: &mut Check) {
             for postings in 1..=8 {
                 for stopped in 1..=4 {
                     let rng = &mut check.rng;
+                    let sizes = Sizes::new(rows, postings, stopped);
+                    let keys = &KEYS[..1 + rng.below(6) as usize];
                     let source = Source {
-                        sizes: Sizes::new(rows, postings, stopped),
-                        keys: &KEYS[..1 + rng.below(6) as usize],
                         limit: (rng.below(2) == 0).then(|| some_limit(rng)),
-                        most: 4,
+                        ..Source::any(sizes, keys, 4)
                     };
                     source.list::<I>(check, &mut met, 24);
                 }
@@ -282,10 +339,8 @@ fn small_stores<I: Index>(check: &mut Check) {
         let sizes = Sizes::new(size(12), size(200), size(30));
         let keys: Vec<u32> = (0..size(100)).map(|_| rng.sized(32) as u32).collect();
         let source = Source {
-            sizes,
-            keys: &keys,
             limit: (rng.below(2) == 0).then(|| some_limit(rng)),
-            most: 20,
+            ..Source::any(sizes, &keys, 20)
         };
         source.list::<I>(check, &mut met, 60);
     }
@@ -437,13 +492,21 @@ fn at_lengths<I: Index>(check: &mut Check, met: &mut Met, lengths: [usize; 3]) {
         }
     }
     let mut trial = Trial::<I>::new(store);
-    for way in 0..4 {
+    let ways = 4 + u32::from(I::ENTRIES.query.is_some());
+    for way in 0..ways {
         let rng = &mut check.rng;
         let odd = rng.below(2) as usize;
         let hashes = vec![1; I::HASH + odd];
         let (rate, limit) = (some_rate(rng), some_limit(rng));
         let call = match way {
             0 => Call::LiveCount,
+            4 => Call::Query(Query {
+                hashes,
+                rate,
+                settings: I::settings(&I::Config::default()),
+                scratch: rng.pick(&[0, 1, I::VOTE, 2 * I::VOTE, I::VOTE + 1]),
+                fill: rng.next(),
+            }),
             1 => Call::Remove { id: 0 },
             2 => Call::Insert {
                 hashes,
@@ -499,13 +562,7 @@ fn largest_stores<I: Index>(check: &mut Check) {
             end(1, most.postings),
             end(2, most.stopped),
         );
-        let keys = [7, 8, u32::MAX];
-        let source = Source {
-            sizes,
-            keys: &keys,
-            limit: None,
-            most: 3,
-        };
+        let source = Source::any(sizes, &[7, 8, u32::MAX], 3);
         let calls = if sizes.postings == 1 { 30 } else { 6 };
         source.list::<I>(check, &mut met, calls);
     }

@@ -107,6 +107,22 @@ pub fn hough_panako_peak(bins: &[i64], tol: u64) -> Answer {
 /// The slices of a store: references, postings, stopped keys.
 pub type Lent<'a> = [&'a mut [u32]; 3];
 
+/// A query's settings, scale ends and float gates as bits. Scales are Panako's
+/// alone.
+#[derive(Clone, Copy, Debug)]
+pub struct Settings {
+    pub scale_min: u32,
+    pub scale_max: u32,
+    pub scale_bins: u32,
+    pub tolerance: u32,
+    pub min_votes: u32,
+    pub min_score: u32,
+    pub min_prominence: u32,
+}
+
+/// Store, scratch, hashes, rate, settings.
+pub type Query = fn([&[u32]; 3], &mut [i64], &[u32], u32, &Settings) -> Answer;
+
 /// The calls of one index on a lent store.
 #[derive(Clone, Copy)]
 pub struct Entries {
@@ -116,10 +132,12 @@ pub struct Entries {
     pub insert: fn(Lent<'_>, &[u32], u32, u32) -> Answer,
     pub remove: fn(Lent<'_>, u32) -> Answer,
     pub live_count: fn([&[u32]; 3]) -> Answer,
+    /// None where the library has no such function yet.
+    pub query: Option<Query>,
 }
 
 macro_rules! entries {
-    ($list:ident, $build:ident, $insert:ident, $remove:ident, $live_count:ident) => {
+    ($list:ident, $build:ident, $insert:ident, $remove:ident, $live_count:ident, $query:expr) => {
         pub const $list: Entries = {
             unsafe extern "C" {
                 fn $build(
@@ -239,9 +257,61 @@ macro_rules! entries {
                         $live_count(refs, r.len(), postings, p.len(), stopped, s.len(), answer);
                     })
                 },
+                query: $query,
             }
         };
     };
+}
+
+/// The query of that name, which takes these settings before the tolerance.
+macro_rules! query_of {
+    ($query:ident $(, $scale:ident)*) => {{
+        unsafe extern "C" {
+            fn $query(
+                refs: *const u32,
+                refs_len: usize,
+                postings: *const u32,
+                postings_len: usize,
+                stopped: *const u32,
+                stopped_len: usize,
+                scratch: *mut i64,
+                scratch_len: usize,
+                hashes: *const u32,
+                hashes_len: usize,
+                rate: u32,
+                $($scale: u32,)*
+                tolerance: u32,
+                min_votes: u32,
+                min_score: u32,
+                min_prominence: u32,
+                answer: &mut Answer,
+            );
+        }
+        let query: Query = |[r, p, s], scratch, hashes, rate, settings| {
+            answered(|answer| unsafe {
+                $query(
+                    r.as_ptr(),
+                    r.len(),
+                    p.as_ptr(),
+                    p.len(),
+                    s.as_ptr(),
+                    s.len(),
+                    scratch.as_mut_ptr(),
+                    scratch.len(),
+                    hashes.as_ptr(),
+                    hashes.len(),
+                    rate,
+                    $(settings.$scale,)*
+                    settings.tolerance,
+                    settings.min_votes,
+                    settings.min_score,
+                    settings.min_prominence,
+                    answer,
+                );
+            })
+        };
+        query
+    }};
 }
 
 fn answered(call: impl FnOnce(&mut Answer)) -> Answer {
@@ -255,12 +325,24 @@ entries!(
     wang_index_build,
     wang_index_insert,
     wang_index_remove,
-    wang_index_live_count
+    wang_index_live_count,
+    Some(query_of!(wang_index_query))
 );
 entries!(
     PANAKO,
     panako_index_build,
     panako_index_insert,
     panako_index_remove,
-    panako_index_live_count
+    panako_index_live_count,
+    PANAKO_QUERY
 );
+
+#[cfg(feature = "panako-query")]
+const PANAKO_QUERY: Option<Query> = Some(query_of!(
+    panako_index_query,
+    scale_min,
+    scale_max,
+    scale_bins
+));
+#[cfg(not(feature = "panako-query"))]
+const PANAKO_QUERY: Option<Query> = None;

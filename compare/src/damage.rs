@@ -1,9 +1,10 @@
 //! Stores with words that don't belong there: refused with 2 exactly where
 //! the account finds them unsound.
 
-use crate::account::Call;
-use crate::calls::{RATE, some_hashes, some_store};
+use crate::account::{Call, Query};
+use crate::calls::{RATE, Source, some_hashes, some_store};
 use crate::harness::{Check, Rng, Run};
+use crate::queries::OPEN;
 use crate::store::{HEADER, Index, Panako, ROW, Sizes, Store, Wang};
 use crate::trial::{Met, Trial};
 
@@ -18,9 +19,61 @@ pub fn run(run: &mut Run) {
 
 const KEYS: [u32; 5] = [3, 5, 6, 9, u32::MAX];
 
+/// What was met by queries and by other calls.
+#[derive(Default)]
+struct Seen {
+    queries: Met,
+    others: Met,
+}
+
+impl Seen {
+    /// A query, if the library has it, whose hashes have keys of `keys` and
+    /// times of `times`, or any if there are none.
+    fn query<I: Index>(
+        &mut self,
+        check: &mut Check,
+        trial: &mut Trial<I>,
+        [keys, times]: [&[u32]; 2],
+    ) {
+        if I::ENTRIES.query.is_none() {
+            return;
+        }
+        let rng = &mut check.rng;
+        let count = 1 + rng.below(3) as usize;
+        let source = Source {
+            times,
+            ..Source::any(Sizes::MOST, keys, 0)
+        };
+        let query = Query {
+            hashes: source.hashes::<I>(rng, count),
+            rate: RATE,
+            settings: OPEN,
+            scratch: I::VOTE * rng.pick(&[0, 2, 8, 8]),
+            fill: rng.next(),
+        };
+        trial.call(check, &mut self.queries, Call::Query(query));
+    }
+
+    /// Fails where sound stores or unsound ones weren't among them.
+    fn end<I: Index>(&self, check: &mut Check) {
+        let (others, queries) = (&self.others, &self.queries);
+        assert!(others.cases[3] > 0 && others.refusals[2] > 0);
+        if I::ENTRIES.query.is_some() {
+            let [.., best, none, _, _] = queries.cases;
+            let unsound = queries.refusals[2];
+            check.note(format!(
+                "queries: best {best}, none {none}, refused with 2 {unsound}"
+            ));
+            assert!(best > 0 && none > 0 && unsound > 0);
+        }
+    }
+}
+
 /// Every call, one after another: they are refused, or do what they do on a
 /// sound store.
-fn calls_on<I: Index>(check: &mut Check, met: &mut Met, store: &Store) {
+fn calls_on<I: Index>(check: &mut Check, seen: &mut Seen, store: &Store) {
+    let mut trial = Trial::<I>::new(store.clone());
+    seen.query(check, &mut trial, [&KEYS, &[]]);
     let rng = &mut check.rng;
     let count = rng.below(3) as usize;
     let hashes = some_hashes::<I>(rng, count, &KEYS);
@@ -42,9 +95,8 @@ fn calls_on<I: Index>(check: &mut Check, met: &mut Met, store: &Store) {
             limit,
         },
     ];
-    let mut trial = Trial::<I>::new(store.clone());
     for call in calls {
-        trial.call(check, met, call);
+        trial.call(check, &mut seen.others, call);
     }
 }
 
@@ -52,16 +104,16 @@ fn calls_on<I: Index>(check: &mut Check, met: &mut Met, store: &Store) {
 /// a short list; and of two of each, the list shorter still.
 fn tiny_stores<I: Index>(check: &mut Check) {
     const NAN: u32 = 0x7FC0_0000;
-    let mut met = Met::default();
+    let seen = &mut Seen::default();
     let any: &[u32] = &[0, 1, NAN];
-    every_store::<I>(check, &mut met, 1, [any, any, any]);
-    every_store::<I>(check, &mut met, 2, [&[0, 1, 2], &[0, NAN], &[0, 1]]);
-    assert!(met.cases[3] > 0 && met.refusals[2] > 0);
+    every_store::<I>(check, seen, 1, [any, &[0, 1, NAN, RATE], any]);
+    every_store::<I>(check, seen, 2, [&[0, 1, 2], &[0, NAN], &[0, 1]]);
+    seen.end::<I>(check);
 }
 
 /// Every store of `size` rows, postings and stopped keys with the header, the
 /// rates and other words of these lists.
-fn every_store<I: Index>(check: &mut Check, met: &mut Met, size: usize, lists: [&[u32]; 3]) {
+fn every_store<I: Index>(check: &mut Check, seen: &mut Seen, size: usize, lists: [&[u32]; 3]) {
     let [counts, rates, others] = lists;
     let mut store = Store::zeroed::<I>(Sizes::new(size, size, size));
     let mut places: Vec<&[u32]> = Vec::new();
@@ -72,8 +124,12 @@ fn every_store<I: Index>(check: &mut Check, met: &mut Met, size: usize, lists: [
             Some(_) => others,
         });
     }
-    // Of a posting the times after the anchor matter nowhere.
-    let posting = (0..I::WIDTH).map(|word| if word < 3 { others } else { &[0] });
+    // Of a posting the times after the anchor matter to queries alone.
+    let posting = (0..I::WIDTH).map(|word| match word {
+        0..=2 => others,
+        4 if size == 1 => &[0, 1],
+        _ => &[0],
+    });
     places.extend(posting.cycle().take(store.postings.len()));
     places.resize(places.len() + size, others);
     let mut digits = vec![0; places.len()];
@@ -82,9 +138,13 @@ fn every_store<I: Index>(check: &mut Check, met: &mut Met, size: usize, lists: [
         let all = store.lend().into_iter().flatten();
         all.zip(words).for_each(|(word, value)| *word = value);
         let mut trial = Trial::<I>::new(store.clone());
-        trial.call(check, met, Call::LiveCount);
+        trial.call(check, &mut seen.others, Call::LiveCount);
+        seen.query(check, &mut trial, [others, &[0, 1]]);
         if trial.is_sound() {
-            calls_on::<I>(check, met, &store);
+            for _ in 0..20 {
+                seen.query(check, &mut trial, [others, &[0, 1]]);
+            }
+            calls_on::<I>(check, seen, &store);
         }
         let Some(place) = (0..digits.len()).find(|&i| digits[i] + 1 < places[i].len()) else {
             return;
@@ -151,7 +211,7 @@ fn set(store: &mut Store, mut place: usize, value: u32) {
 
 /// Each word of some stores, set to each value.
 fn one_word<I: Index>(check: &mut Check) {
-    let mut met = Met::default();
+    let seen = &mut Seen::default();
     for turn in check.times(60) {
         let sizes = match turn % 3 {
             0 => Sizes::new(3, 4, 2),
@@ -164,16 +224,16 @@ fn one_word<I: Index>(check: &mut Check) {
             for &value in &values {
                 let mut damaged = store.clone();
                 set(&mut damaged, place, value);
-                calls_on::<I>(check, &mut met, &damaged);
+                calls_on::<I>(check, seen, &damaged);
             }
         }
     }
-    assert!(met.cases[3] > 0 && met.refusals[2] > 0);
+    seen.end::<I>(check);
 }
 
 /// Up to three words of stores small and larger.
 fn some_words<I: Index>(check: &mut Check) {
-    let mut met = Met::default();
+    let seen = &mut Seen::default();
     let mut some = |check: &mut Check, sizes: [u64; 3], keys: &[u32]| {
         let rng = &mut check.rng;
         let [rows, postings, stopped] = sizes.map(|most| 1 + rng.below(most) as usize);
@@ -190,7 +250,7 @@ fn some_words<I: Index>(check: &mut Check) {
                 let value = rng.pick(&values);
                 set(&mut damaged, place, value);
             }
-            calls_on::<I>(check, &mut met, &damaged);
+            calls_on::<I>(check, seen, &damaged);
         }
     };
     for _ in check.times(4000) {
@@ -203,12 +263,12 @@ fn some_words<I: Index>(check: &mut Check) {
     for _ in check.times(20) {
         some(check, [4096, 300, 80], &keys);
     }
-    large_store::<I>(check, &mut met);
-    assert!(met.cases[3] > 0 && met.refusals[2] > 0);
+    large_store::<I>(check, seen);
+    seen.end::<I>(check);
 }
 
 /// One word of the largest store, mostly where its used parts end.
-fn large_store<I: Index>(check: &mut Check, met: &mut Met) {
+fn large_store<I: Index>(check: &mut Check, seen: &mut Seen) {
     let keys: Vec<u32> = (0..300_000).map(|_| check.rng.next() as u32).collect();
     let store = some_store::<I>(&mut check.rng, Sizes::MOST, &keys);
     let [n, v, p, k] = store.header().map(|count| count as usize);
@@ -241,7 +301,8 @@ fn large_store<I: Index>(check: &mut Check, met: &mut Met) {
             let mut damaged = store.clone();
             set(&mut damaged, place, value);
             let mut trial = Trial::<I>::new(damaged);
-            trial.call(check, met, Call::LiveCount);
+            trial.call(check, &mut seen.others, Call::LiveCount);
+            seen.query(check, &mut trial, [&keys, &[]]);
         }
     }
 }

@@ -1,8 +1,9 @@
 //! The calls on lent stores, measured beside the reference's: a school card,
 //! and depots of several sizes. Both sides hold the same all along.
 
-use crate::account::{built, counted, removed, stored};
+use crate::account::{built, counted, found, removed, stored};
 use crate::calls::RATE;
+use crate::capi::Answer;
 use crate::harness::Rng;
 use crate::store::{Index, Panako, Sizes, Store, Wang, write};
 use std::hint::black_box;
@@ -10,6 +11,9 @@ use std::time::Duration;
 
 /// The default of the reference's settings.
 const LIMIT: u32 = 100;
+
+/// Turns of a query's measurement.
+const QUERY_TURNS: usize = 101;
 
 /// `lists` recordings of `hashes` hashes with keys of `bits` bits.
 #[derive(Clone, Copy)]
@@ -24,32 +28,55 @@ struct Card {
     turns: usize,
 }
 
-pub fn run(only: Option<&str>) {
-    let depot = |name, lists, bits, postings| Card {
+const SCHOOL: Card = Card {
+    name: "30 × 30, 22 bits",
+    lists: 30,
+    hashes: 30,
+    bits: 22,
+    sizes: Sizes {
+        rows: 32,
+        postings: 1024,
+        stopped: 256,
+    },
+    batch: 30,
+    turns: 300,
+};
+
+const fn depot(name: &'static str, lists: usize, bits: u32, postings: usize) -> Card {
+    Card {
         name,
         lists,
         hashes: 3000,
         bits,
-        sizes: Sizes::new(512, postings, 65_536),
+        sizes: Sizes {
+            rows: 512,
+            postings,
+            stopped: 65_536,
+        },
         batch: 1,
         turns: 41,
-    };
+    }
+}
+
+const LARGE: [Card; 2] = [
+    depot("300 × 3,000, 22 bits", 300, 22, 1 << 20),
+    depot("300 × 3,000, 17 bits", 300, 17, 1 << 20),
+];
+
+pub fn run(only: Option<&str>) {
+    calls(only);
+    queries(only);
+}
+
+fn calls(only: Option<&str>) {
     let cards = [
-        Card {
-            name: "30 × 30, 22 bits",
-            lists: 30,
-            hashes: 30,
-            bits: 22,
-            sizes: Sizes::new(32, 1024, 256),
-            batch: 30,
-            turns: 300,
-        },
+        SCHOOL,
         depot("75 × 3,000, 22 bits", 75, 22, 1 << 18),
         depot("150 × 3,000, 22 bits", 150, 22, 1 << 19),
-        depot("300 × 3,000, 22 bits", 300, 22, 1 << 20),
+        LARGE[0],
         depot("75 × 3,000, 17 bits", 75, 17, 1 << 18),
         depot("150 × 3,000, 17 bits", 150, 17, 1 << 19),
-        depot("300 × 3,000, 17 bits", 300, 17, 1 << 20),
+        LARGE[1],
     ];
     let mut rows = Vec::new();
     for card in cards {
@@ -226,4 +253,137 @@ fn measure<I: Index>(card: Card) -> Times {
     }
     same(&store, &index);
     times
+}
+
+// ---- queries
+
+fn queries(only: Option<&str>) {
+    let asked = |name: &str| only.is_none_or(|only| name.contains(only));
+    let mut rows = Vec::new();
+    for (card, hashes) in [
+        (SCHOOL, 30),
+        (LARGE[0], 300),
+        (LARGE[0], 2048),
+        (LARGE[1], 300),
+        (LARGE[1], 2048),
+    ] {
+        if asked("Wang query") {
+            rows.extend(measure_queries::<Wang>("WangIndex", card, hashes));
+        }
+        if asked("Panako query") {
+            rows.extend(measure_queries::<Panako>("PanakoIndex", card, hashes));
+        }
+    }
+    if rows.is_empty() {
+        return;
+    }
+    println!();
+    println!(
+        "| query | lists | hashes | postings met | ours, µs | scan, µs | rest, µs | Rust, µs \
+         | rest / Rust | ours / Rust |"
+    );
+    println!("|---|---|---|---|---|---|---|---|---|---|");
+    rows.iter().for_each(|row| println!("{row}"));
+}
+
+/// A part of a list as it is heard: from its own begin, a hash in four lost
+/// to another key, times off by a frame.
+fn heard<I: Index>(rng: &mut Rng, card: Card, list: &[u32], hashes: usize) -> Vec<u32> {
+    let first = rng.below((card.hashes - hashes) as u64 + 1) as usize;
+    let part = &list[I::HASH * first..][..I::HASH * hashes];
+    let begin = part[1];
+    let hash = |hash: &[u32]| {
+        let off = rng.below(3) as u32;
+        let key = match rng.below(4) {
+            0 => rng.below(1 << card.bits) as u32,
+            _ => hash[0],
+        };
+        let times = hash[1..].iter().map(|time| time - begin + off);
+        [key].into_iter().chain(times).collect::<Vec<u32>>()
+    };
+    part.chunks_exact(I::HASH).flat_map(hash).collect()
+}
+
+fn median(mut times: Vec<f64>) -> f64 {
+    times.sort_unstable_by(f64::total_cmp);
+    times[times.len() / 2]
+}
+
+/// A row of the table, if the library has this query: both sides in turn on
+/// the same content, each turn with other queries.
+fn measure_queries<I: Index>(name: &str, card: Card, hashes: usize) -> Option<String> {
+    let query = I::ENTRIES.query?;
+    let live_count = I::ENTRIES.live_count;
+    let rng = &mut Rng(1);
+    let lists: Vec<Vec<u32>> = (0..card.lists).map(|_| list::<I>(rng, card)).collect();
+    let fingerprint = |list: &Vec<u32>| I::fingerprint(list, RATE);
+    let index = I::build(&lists.iter().map(fingerprint).collect::<Vec<_>>(), LIMIT);
+    let content = index.content();
+    let store = write::<I>(&content, card.sizes);
+    let under = |key: u32| {
+        let place = content.map.binary_search_by_key(&key, |(key, _)| *key);
+        place.map_or(0, |place| content.map[place].1.len())
+    };
+    let config = I::Config::default();
+    let settings = I::settings(&config);
+    let mut scratch = Vec::new();
+    let mut met = Vec::new();
+    let mut times: [Vec<f64>; 4] = Default::default();
+    for _ in 0..QUERY_TURNS {
+        let mut asked = Vec::new();
+        for _ in 0..card.batch {
+            let id = rng.below(card.lists as u64) as usize;
+            let hashes = heard::<I>(rng, card, &lists[id], hashes);
+            let keys = hashes.chunks_exact(I::HASH).map(|hash| hash[0]);
+            let postings: usize = keys.map(under).sum();
+            met.push(postings as f64);
+            let room = I::VOTE * postings.next_power_of_two().max(512);
+            asked.push((I::fingerprint(&hashes, RATE), hashes, room));
+        }
+        let room = asked.iter().map(|(_, _, room)| *room).max();
+        scratch.resize(room.expect("there are queries"), 0);
+        let mut took = [f64::INFINITY; 3];
+        timed(&mut took[0], card.batch, || {
+            (0..card.batch).fold(counted(0), |_, _| live_count(black_box(store.slices())))
+        });
+        let ours: Vec<Answer> = timed(&mut took[1], card.batch, || {
+            let ask = |(_, hashes, room): &(_, Vec<u32>, usize)| {
+                query(
+                    store.slices(),
+                    &mut scratch[..*room],
+                    hashes,
+                    RATE,
+                    &settings,
+                )
+            };
+            asked.iter().map(ask).collect()
+        });
+        let rust: Vec<_> = timed(&mut took[2], card.batch, || {
+            asked
+                .iter()
+                .map(|(heard, ..)| index.query(heard, &config))
+                .collect()
+        });
+        assert!(
+            ours.into_iter().eq(rust.into_iter().map(found)),
+            "both sides answer the same"
+        );
+        let [scan, ours, rust] = took;
+        for (times, took) in times.iter_mut().zip([ours, scan, ours - scan, rust]) {
+            times.push(took);
+        }
+    }
+    let [ours, scan, rest, rust] = times.map(median);
+    let micros = |ns: f64| format!("{:.*}", if ns < 1e5 { 2 } else { 0 }, ns / 1e3);
+    Some(format!(
+        "| `{name}::query` | {} | {hashes} | {:.0} | {} | {} | {} | {} | {:.2} | {:.2} |",
+        card.name,
+        met.iter().sum::<f64>() / met.len() as f64,
+        micros(ours),
+        micros(scan),
+        micros(rest),
+        micros(rust),
+        rest / rust,
+        ours / rust
+    ))
 }

@@ -30,10 +30,12 @@ impl Run {
             name,
             inputs: 0,
             scale: self.scale,
+            notes: Vec::new(),
             rng,
         };
         body(&mut check);
         println!("{name}: {} inputs, 0 differences", check.inputs);
+        check.notes.iter().for_each(|note| println!("    {note}"));
         self.passed += 1;
     }
 }
@@ -43,6 +45,7 @@ pub struct Check {
     name: &'static str,
     inputs: u64,
     scale: u64,
+    notes: Vec<String>,
     pub rng: Rng,
 }
 
@@ -50,6 +53,11 @@ impl Check {
     /// `count` at the gate's size, more with `--scale`.
     pub fn times(&self, count: u64) -> std::ops::Range<u64> {
         0..count * self.scale
+    }
+
+    /// A line to print below the check's own.
+    pub fn note(&mut self, note: String) {
+        self.notes.push(note);
     }
 
     /// Counts one input; ends the run at a difference.

@@ -17,7 +17,9 @@ mod harness;
 mod hough;
 mod matching;
 mod panako;
+mod queries;
 mod store;
+mod tally;
 mod trial;
 
 use harness::Run;
@@ -64,6 +66,7 @@ fn main() {
     panako::run(&mut run);
     calls::run(&mut run);
     damage::run(&mut run);
+    queries::run(&mut run);
     if run.passed == 0 {
         eprintln!("compare: no check has that name");
         std::process::exit(2);

@@ -16,7 +16,7 @@ pub fn run(run: &mut Run) {
 }
 
 /// Whether settings are taken, once the reference has normalised them.
-fn within(settings: &PanakoMatchConfig) -> bool {
+pub fn within(settings: &PanakoMatchConfig) -> bool {
     settings.scale_min.abs() <= 64.0
         && settings.scale_max.abs() <= 64.0
         && settings.scale_bins <= 4096
@@ -199,28 +199,6 @@ impl Query {
         );
     }
 
-    /// Settings of every kind, most of them within the limits.
-    fn vary(&mut self, rng: &mut Rng, ends: &[f32]) {
-        let settings = &mut self.settings;
-        settings.scale_bins = match rng.below(16) {
-            0 => rng.pick(&[4097, 4098, 1 << 16, u32::MAX]),
-            1..6 => rng.pick(&[0, 1, 2, 3, 24, 4095, 4096]),
-            _ => rng.sized(12) as u32,
-        };
-        let wide = |rng: &mut Rng| (129.0 * rng.unit() - 64.5) as f32;
-        let near = |rng: &mut Rng, x: f32| f32::from_bits(rng.near32(x.to_bits()));
-        let low = 2.0 * rng.unit() as f32;
-        (settings.scale_min, settings.scale_max) = match rng.below(8) {
-            0 => (rng.pick(ends), rng.pick(ends)),
-            1 => (wide(rng), wide(rng)),
-            2 => (near(rng, -64.0), near(rng, 64.0)),
-            // A grid whose bins are hardly apart.
-            3 => (low, near(rng, low)),
-            4 => (0.5, 2.0),
-            _ => (low, low + 2.0 * rng.unit() as f32),
-        };
-    }
-
     /// A scale in the grid, at the bound of a bin, at or around its ends, or
     /// of any size.
     fn scale(&self, rng: &mut Rng) -> f64 {
@@ -235,6 +213,27 @@ impl Query {
             _ => min - half + (max - min + 2.0 * half) * rng.unit(),
         }
     }
+}
+
+/// Scale settings of every kind, most of them within the limits.
+pub fn vary(settings: &mut PanakoMatchConfig, rng: &mut Rng, ends: &[f32]) {
+    settings.scale_bins = match rng.below(16) {
+        0 => rng.pick(&[4097, 4098, 1 << 16, u32::MAX]),
+        1..6 => rng.pick(&[0, 1, 2, 3, 24, 4095, 4096]),
+        _ => rng.sized(12) as u32,
+    };
+    let wide = |rng: &mut Rng| (129.0 * rng.unit() - 64.5) as f32;
+    let near = |rng: &mut Rng, x: f32| f32::from_bits(rng.near32(x.to_bits()));
+    let low = 2.0 * rng.unit() as f32;
+    (settings.scale_min, settings.scale_max) = match rng.below(8) {
+        0 => (rng.pick(ends), rng.pick(ends)),
+        1 => (wide(rng), wide(rng)),
+        2 => (near(rng, -64.0), near(rng, 64.0)),
+        // A grid whose bins are hardly apart.
+        3 => (low, near(rng, low)),
+        4 => (0.5, 2.0),
+        _ => (low, low + 2.0 * rng.unit() as f32),
+    };
 }
 
 /// A span of a query hash that has about this scale to the span `reference`.
@@ -288,7 +287,7 @@ fn pair_vote(check: &mut Check) {
         let index = recording_of(&[reference]);
         for _ in 0..6 {
             let rng = &mut check.rng;
-            query.vary(rng, &ends);
+            vary(&mut query.settings, rng, &ends);
             let scale = query.scale(rng);
             let span = span_for(rng, span, scale);
             let mut times = anchored(rng, span);
@@ -311,7 +310,7 @@ fn two_votes(check: &mut Check) {
         let index = recording_of(&reference);
         for _ in 0..6 {
             let rng = &mut check.rng;
-            query.vary(rng, &[0.0, 1.0, 2.0, 32.0, 64.0]);
+            vary(&mut query.settings, rng, &[0.0, 1.0, 2.0, 32.0, 64.0]);
             // The second scale is often a bin or two away.
             let scale = query.scale(rng);
             let grid = Reach::normalize_config(query.settings.clone());

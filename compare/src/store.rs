@@ -1,9 +1,12 @@
 //! The lent store beside the reference's index: the calls of both sides, and
 //! document 01's layout, written from what the reference's index holds.
 
-use crate::capi::{self, Entries, Lent};
+use crate::capi::{self, Entries, Lent, Settings};
 use crate::harness::word32;
+use crate::panako::within;
+use audiofp::Reach;
 use audiofp::classical::{PanakoFingerprint, PanakoHash, WangFingerprint, WangHash};
+use audiofp::matching::{MatchResult, PanakoMatchConfig, WangMatchConfig};
 use audiofp::open::{self, PanakoIndex, WangIndex};
 
 /// What the reference's index of one kind holds.
@@ -121,14 +124,30 @@ pub trait Index: Sized {
     const HASH: usize = Self::WIDTH - 1;
     /// Whether rows keep their largest anchor.
     const HAS_R_MAX: bool;
+    /// Words of scratch for a vote.
+    const VOTE: usize;
     type Posting: Posting;
     type Fingerprint;
+    /// The reference's settings of a query.
+    type Config: Default;
 
     fn fingerprint(hashes: &[u32], rate: u32) -> Self::Fingerprint;
     fn build(refs: &[Self::Fingerprint], limit: u32) -> Self;
     fn insert(&mut self, fingerprint: &Self::Fingerprint, limit: u32) -> usize;
     fn remove(&mut self, id: usize) -> bool;
     fn live_count(&self) -> usize;
+    fn query(
+        &self,
+        query: &Self::Fingerprint,
+        config: &Self::Config,
+    ) -> Option<(usize, MatchResult)>;
+
+    fn config(settings: &Settings) -> Self::Config;
+    fn settings(config: &Self::Config) -> Settings;
+    /// Whether a setting is beyond its limit, after `normalize_config`.
+    fn is_beyond(settings: &Settings) -> bool;
+    /// Whether a hash of a query has a vote by a posting under its key.
+    fn is_vote(settings: &Settings, hash: &[u32], posting: &[u32]) -> bool;
 
     fn content(&self) -> Content<Self>;
     fn of(content: Content<Self>) -> Self;
@@ -152,6 +171,14 @@ macro_rules! calls_of {
 
         fn live_count(&self) -> usize {
             self.0.live_count()
+        }
+
+        fn query(
+            &self,
+            query: &Self::Fingerprint,
+            config: &Self::Config,
+        ) -> Option<(usize, MatchResult)> {
+            self.0.query(query, config)
         }
 
         fn content(&self) -> Content<Self> {
@@ -179,8 +206,10 @@ impl Index for Wang {
     const ENTRIES: Entries = capi::WANG;
     const WIDTH: usize = 3;
     const HAS_R_MAX: bool = true;
+    const VOTE: usize = 6;
     type Posting = (u32, u32);
     type Fingerprint = WangFingerprint;
+    type Config = WangMatchConfig;
 
     fn fingerprint(hashes: &[u32], rate: u32) -> WangFingerprint {
         let hashes = hashes.chunks_exact(Self::HASH).map(|words| WangHash {
@@ -193,6 +222,37 @@ impl Index for Wang {
         }
     }
 
+    /// The stop limit is a setting of `build` and `insert`.
+    fn config(settings: &Settings) -> WangMatchConfig {
+        WangMatchConfig {
+            offset_tolerance_frames: settings.tolerance,
+            min_votes: settings.min_votes,
+            min_score: f32::from_bits(settings.min_score),
+            min_prominence: f32::from_bits(settings.min_prominence),
+            ..WangMatchConfig::default()
+        }
+    }
+
+    fn settings(config: &WangMatchConfig) -> Settings {
+        Settings {
+            scale_min: 0,
+            scale_max: 0,
+            scale_bins: 0,
+            tolerance: config.offset_tolerance_frames,
+            min_votes: config.min_votes,
+            min_score: config.min_score.to_bits(),
+            min_prominence: config.min_prominence.to_bits(),
+        }
+    }
+
+    fn is_beyond(settings: &Settings) -> bool {
+        settings.tolerance > 65_535
+    }
+
+    fn is_vote(_: &Settings, _: &[u32], _: &[u32]) -> bool {
+        true
+    }
+
     calls_of!(WangIndex);
 }
 
@@ -200,8 +260,10 @@ impl Index for Panako {
     const ENTRIES: Entries = capi::PANAKO;
     const WIDTH: usize = 5;
     const HAS_R_MAX: bool = false;
+    const VOTE: usize = 12;
     type Posting = (u32, u32, u32, u32);
     type Fingerprint = PanakoFingerprint;
+    type Config = PanakoMatchConfig;
 
     fn fingerprint(hashes: &[u32], rate: u32) -> PanakoFingerprint {
         let hashes = hashes.chunks_exact(Self::HASH).map(|words| PanakoHash {
@@ -214,6 +276,49 @@ impl Index for Panako {
             hashes: hashes.collect(),
             frames_per_sec: f32::from_bits(rate),
         }
+    }
+
+    fn config(settings: &Settings) -> PanakoMatchConfig {
+        PanakoMatchConfig {
+            scale_min: f32::from_bits(settings.scale_min),
+            scale_max: f32::from_bits(settings.scale_max),
+            scale_bins: settings.scale_bins,
+            offset_tolerance_frames: settings.tolerance,
+            min_votes: settings.min_votes,
+            min_score: f32::from_bits(settings.min_score),
+            min_prominence: f32::from_bits(settings.min_prominence),
+            ..PanakoMatchConfig::default()
+        }
+    }
+
+    fn settings(config: &PanakoMatchConfig) -> Settings {
+        Settings {
+            scale_min: config.scale_min.to_bits(),
+            scale_max: config.scale_max.to_bits(),
+            scale_bins: config.scale_bins,
+            tolerance: config.offset_tolerance_frames,
+            min_votes: config.min_votes,
+            min_score: config.min_score.to_bits(),
+            min_prominence: config.min_prominence.to_bits(),
+        }
+    }
+
+    fn is_beyond(settings: &Settings) -> bool {
+        !within(&Reach::normalize_config(Self::config(settings)))
+    }
+
+    /// "spans are t_c − t_anchor, held at 0 from below; a pair with a zero
+    /// span gives no vote. In f64, s = reference span / query span; per =
+    /// (scale_max − scale_min) / scale_bins; no vote if s < scale_min − per ×
+    /// 0.5 or s > scale_max + per × 0.5."
+    fn is_vote(settings: &Settings, hash: &[u32], posting: &[u32]) -> bool {
+        let grid = Reach::normalize_config(Self::config(settings));
+        let (min, max) = (f64::from(grid.scale_min), f64::from(grid.scale_max));
+        let per = (max - min) / f64::from(grid.scale_bins);
+        let query = hash[3].saturating_sub(hash[1]);
+        let reference = posting[4].saturating_sub(posting[2]);
+        let s = f64::from(reference) / f64::from(query);
+        query > 0 && reference > 0 && !(s < min - per * 0.5 || s > max + per * 0.5)
     }
 
     calls_of!(PanakoIndex);

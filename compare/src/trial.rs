@@ -1,46 +1,116 @@
 //! A store lent to the library, call after call, and held to its account.
 
-use crate::account::{Account, Call};
+use crate::account::{Account, Call, Query};
 use crate::capi::Answer;
-use crate::harness::Check;
+use crate::harness::{Check, Rng};
 use crate::store::{Index, Sizes, Store};
-use std::fmt::Write;
+use std::fmt::{UpperHex, Write};
 
-/// What stands around a lent slice, and may not change either.
-const FENCE: [u32; 3] = [0xA5A5_A5A5; 3];
+/// A word of a lent slice.
+trait Word: Copy + PartialEq + UpperHex {
+    /// What stands around a lent slice, and may not change either.
+    const FENCE: [Self; 3];
+
+    /// Another word.
+    fn changed(self) -> Self;
+}
+
+impl Word for u32 {
+    const FENCE: [u32; 3] = [0xA5A5_A5A5; 3];
+
+    fn changed(self) -> u32 {
+        self ^ 1
+    }
+}
+
+impl Word for i64 {
+    const FENCE: [i64; 3] = [0x5A5A_A5A5_5A5A_A5A5; 3];
+
+    fn changed(self) -> i64 {
+        self ^ 1
+    }
+}
 
 /// A slice between fences.
-struct Fenced(Vec<u32>);
+#[derive(Default)]
+struct Fenced<T>(Vec<T>);
 
-impl Fenced {
-    fn new(words: &[u32]) -> Self {
-        Self([&FENCE, words, &FENCE].concat())
+impl<T: Word> Fenced<T> {
+    fn new(words: &[T]) -> Self {
+        Self([&T::FENCE, words, &T::FENCE].concat())
     }
 
-    fn words(&mut self) -> &mut [u32] {
-        let end = self.0.len() - FENCE.len();
-        &mut self.0[FENCE.len()..end]
+    fn fill(&mut self, words: impl Iterator<Item = T>) {
+        self.0.clear();
+        self.0.extend(T::FENCE);
+        self.0.extend(words);
+        self.0.extend(T::FENCE);
     }
 
-    fn holds(&self, words: &[u32]) -> bool {
-        let (low, rest) = self.0.split_at(FENCE.len());
-        let (middle, high) = rest.split_at(rest.len() - FENCE.len());
-        low == FENCE && high == FENCE && middle == words
+    fn words(&mut self) -> &mut [T] {
+        let end = self.0.len() - T::FENCE.len();
+        &mut self.0[T::FENCE.len()..end]
     }
+
+    fn holds(&self, words: &[T]) -> bool {
+        self.within() == Some(words)
+    }
+
+    /// The slice, where the fences stand.
+    fn within(&self) -> Option<&[T]> {
+        let rest = self.0.strip_prefix(&T::FENCE)?;
+        rest.strip_suffix(&T::FENCE)
+    }
+
+    /// The first words that aren't as expected.
+    fn differences(&self, words: impl Iterator<Item = T>) -> Vec<String> {
+        let fence = T::FENCE.into_iter();
+        let expected = fence.clone().chain(words).chain(fence);
+        let places = self.0.iter().zip(expected).enumerate();
+        let differ = places.filter(|(_, (ours, expected))| **ours != *expected);
+        let told = |(place, (ours, expected)): (usize, (&T, T))| {
+            let place = place as i64 - T::FENCE.len() as i64;
+            format!("[{place}] ours {ours:X}, expected {expected:X}")
+        };
+        differ.map(told).take(20).collect()
+    }
+}
+
+impl Query {
+    /// What the scratch holds before the call: any words, or mostly ends.
+    fn filling(&self) -> impl Iterator<Item = i64> {
+        const ENDS: [i64; 6] = [0, 1, -1, i64::MIN, i64::MAX, 1 << 44];
+        let (mut rng, has_ends) = (Rng(self.fill), self.fill % 2 == 1);
+        (0..self.scratch).map(move |_| match has_ends {
+            true => rng.pick(&ENDS),
+            false => rng.next() as i64,
+        })
+    }
+
+    /// What it is to hold after it: "after an accepted one, none included,
+    /// every scratch word is zero", and what it held after a refused one.
+    fn left(&self, answer: &Answer) -> impl Iterator<Item = i64> {
+        let kept = i64::from(is_refused(answer));
+        self.filling().map(move |word| kept * word)
+    }
+}
+
+fn is_refused(answer: &Answer) -> bool {
+    answer[0] == 6
 }
 
 /// The answers met, by case, and the refusals, by number.
 #[derive(Default)]
 pub struct Met {
     pub cases: [u64; 8],
-    pub refusals: [u64; 8],
+    pub refusals: [u64; 9],
 }
 
 impl Met {
     fn add(&mut self, answer: &Answer) {
         let [case, value, ..] = answer.map(|word| word as usize);
         self.cases[case] += 1;
-        if case == 6 {
+        if is_refused(answer) {
             self.refusals[value] += 1;
         }
     }
@@ -59,7 +129,10 @@ impl Met {
 pub struct Trial<I> {
     start: Store,
     calls: Vec<Call>,
-    lent: [Fenced; 3],
+    lent: [Fenced<u32>; 3],
+    /// Of the last query.
+    scratch: Fenced<i64>,
+    hashes: Fenced<u32>,
     account: Account<I>,
 }
 
@@ -67,6 +140,8 @@ impl<I: Index> Trial<I> {
     pub fn new(start: Store) -> Self {
         Self {
             lent: start.slices().map(Fenced::new),
+            scratch: Fenced::default(),
+            hashes: Fenced::default(),
             account: Account::new(start.clone()),
             calls: Vec::new(),
             start,
@@ -86,15 +161,19 @@ impl<I: Index> Trial<I> {
         self.account.is_sound()
     }
 
-    /// Puts the call to both sides. Answer, store and fences are compared.
+    /// What the store is held to.
+    pub fn account(&self) -> &Account<I> {
+        &self.account
+    }
+
+    /// Puts the call to both sides. Answer, lent slices and fences are
+    /// compared.
     pub fn call(&mut self, check: &mut Check, met: &mut Met, call: Call) -> Answer {
         let ours = self.ours(&call);
         let expected = self.account.call(&call);
         self.calls.push(call);
-        let kept = self.lent.iter().zip(self.account.store.slices());
-        let same = ours == expected && kept.into_iter().all(|(lent, words)| lent.holds(words));
         let answers = [("ours", ours), ("expected", expected)];
-        check.holds(same, || self.report(answers));
+        check.holds(self.is_same(&ours, &expected), || self.report(answers));
         met.add(&expected);
         expected
     }
@@ -123,7 +202,60 @@ impl<I: Index> Trial<I> {
             } => (entries.insert)(lent, hashes, *rate, *limit),
             Call::Remove { id } => (entries.remove)(lent, *id),
             Call::LiveCount => (entries.live_count)(lent.map(|words| &*words)),
+            Call::Query(query) => {
+                let entry = entries.query.expect("the library has this query");
+                let store = lent.map(|words| &*words);
+                self.scratch.fill(query.filling());
+                self.hashes.fill(query.hashes.iter().copied());
+                let (scratch, hashes) = (self.scratch.words(), self.hashes.words());
+                entry(store, scratch, hashes, query.rate, &query.settings)
+            }
         }
+    }
+
+    /// Whether the last call answered and left what it was to.
+    fn is_same(&self, ours: &Answer, expected: &Answer) -> bool {
+        let mut store = self.lent.iter().zip(self.account.store.slices());
+        ours == expected
+            && store.all(|(lent, words)| lent.holds(words))
+            && match self.calls.last() {
+                Some(Call::Query(query)) => {
+                    let scratch = self.scratch.within();
+                    let left = query.left(expected);
+                    self.hashes.holds(&query.hashes)
+                        && scratch.is_some_and(|words| words.iter().copied().eq(left))
+                }
+                _ => true,
+            }
+    }
+
+    /// Whether a change of any one word of the answer to the last query, or
+    /// of what it was lent and the fences, would have been seen.
+    pub fn sees_changes(&mut self, answer: &Answer) -> bool {
+        let words = (0..answer.len()).all(|place| {
+            let mut changed = *answer;
+            changed[place] ^= 1;
+            !self.is_same(&changed, answer)
+        });
+        self.is_same(answer, answer)
+            && words
+            && (0..3).all(|slice| self.sees_change_of(answer, |trial| &mut trial.lent[slice]))
+            && self.sees_change_of(answer, |trial| &mut trial.hashes)
+            && self.sees_change_of(answer, |trial| &mut trial.scratch)
+    }
+
+    fn sees_change_of<T: Word>(
+        &mut self,
+        answer: &Answer,
+        slice: impl Fn(&mut Self) -> &mut Fenced<T>,
+    ) -> bool {
+        (0..slice(self).0.len()).all(|place| {
+            let word = slice(self).0[place];
+            slice(self).0[place] = word.changed();
+            let seen = !self.is_same(answer, answer);
+            slice(self).0[place] = word;
+            seen
+        })
     }
 
     /// Where two sides part: the store at first, all calls, both answers, and
@@ -139,16 +271,19 @@ impl<I: Index> Trial<I> {
         for (side, answer) in answers {
             let _ = writeln!(text, "  {side:8} {answer:x?}");
         }
-        for ((name, lent), words) in NAMES.into_iter().zip(&self.lent).zip(self.store().slices()) {
-            let words = [&FENCE, words, &FENCE].concat();
-            let places = lent.0.iter().zip(&words).enumerate();
-            for (place, (ours, expected)) in places.filter(|(_, (a, b))| a != b).take(20) {
-                let place = place as i64 - FENCE.len() as i64;
-                let _ = writeln!(
-                    text,
-                    "  {name}[{place}] ours {ours:X}, expected {expected:X}"
-                );
+        let mut tell = |name: &str, differences: Vec<String>| {
+            for difference in differences {
+                let _ = writeln!(text, "  {name}{difference}");
             }
+        };
+        for ((name, lent), words) in NAMES.into_iter().zip(&self.lent).zip(self.store().slices()) {
+            tell(name, lent.differences(words.iter().copied()));
+        }
+        if let Some(Call::Query(query)) = self.calls.last() {
+            let left = query.left(&answers[1].1);
+            tell("scratch", self.scratch.differences(left));
+            let hashes = query.hashes.iter().copied();
+            tell("hashes", self.hashes.differences(hashes));
         }
         text
     }
@@ -179,6 +314,14 @@ fn told(call: &Call) -> String {
         ),
         Call::Remove { id } => format!("remove: id {id}"),
         Call::LiveCount => String::from("live_count"),
+        Call::Query(query) => format!(
+            "query: hashes {}; rate {:X}; {:X?}; scratch of {} words, filled from {:X}",
+            shown(&query.hashes),
+            query.rate,
+            query.settings,
+            query.scratch,
+            query.fill
+        ),
     }
 }
 

@@ -8,6 +8,9 @@ use Rattle.model.specs.Query.{Query}
 use Rattle.judging.specs.declared.WangMatchConfig.{WangMatchConfig}
 use Rattle.judging.specs.Scheme.{wang}
 use Rattle.querying.specs.Asked.{asked}
+use Rattle.panako_vote.specs.declared.PanakoMatchConfig.{PanakoMatchConfig}
+use Rattle.panako_judging.specs.Scheme.{panako}
+use Rattle.panako_querying.specs.Asked as of-panako
 use Rattle.capi.specs.Codes.{single, flag, twosComplement}
 
 abbrev pub caseWords : ℕ → ℕ → List ℕ
@@ -35,3 +38,20 @@ wangConfig tolerance votes score prominence = record { «offset_tolerance_frames
 
 abbrev pub wangAsked : List ℕ → ℕ → ℕ → ℕ → ℕ → ℕ → ℕ → Query wang
 wangAsked hashes rate tolerance votes score prominence scratch = asked (wangConfig tolerance votes score prominence) (single rate) hashes scratch
+
+-- ---- and a Panako query's
+
+abbrev pub panakoConfig : ℕ → ℕ → ℕ → ℕ → ℕ → ℕ → ℕ → PanakoMatchConfig
+panakoConfig min max bins tolerance votes score prominence = record {
+  «scale_min» = single min;
+  «scale_max» = single max;
+  «scale_bins» = bins;
+  «offset_tolerance_frames» = tolerance;
+  «min_votes» = votes;
+  «min_score» = single score;
+  «min_prominence» = single prominence;
+}
+
+abbrev pub panakoAsked : List ℕ → ℕ → ℕ → ℕ → ℕ → ℕ → ℕ → ℕ → ℕ → ℕ → Query panako
+panakoAsked hashes rate min max bins tolerance votes score prominence scratch =
+    of-panako.asked (panakoConfig min max bins tolerance votes score prominence) (single rate) hashes scratch

@@ -2,18 +2,21 @@
 ghost use mathlib.Core.Path.{_≡_};
 ghost use lib.ListN.{length};
 ghost use Rattle.model.specs.Calls.{build, insert, remove, liveCount, query};
-ghost use Rattle.model.specs.Run.{runBuild, runInsert, runRemove, runCount, run};
+ghost use Rattle.model.specs.Run.{run};
 ghost use Rattle.soundness.specs.Scan.{words};
 ghost use Rattle.building.specs.Answers.{buildingAnswer};
 ghost use Rattle.insertion.specs.Insert.{insertionAnswer};
 ghost use Rattle.store.specs.Answers.{countAnswer, removalAnswer};
 ghost use Rattle.ranking.specs.Answers.{findingAnswer, scratchAfter};
 ghost use Rattle.judging.specs.Scheme.{wang};
-ghost use Rattle.capi.specs.Answers.{bestWords, answerWords, wangConfig, wangAsked};
+ghost use Rattle.panako_judging.specs.Scheme.{panako};
+ghost use Rattle.capi.specs.Answers.{bestWords, answerWords, wangConfig, wangAsked, panakoConfig, panakoAsked};
 use building::Building;
 use insertion::Insertion;
 use judging::WangMatchConfig;
 use matching::MatchResult;
+use panako::PanakoIndex;
+use panako_vote::PanakoMatchConfig;
 use ranking::Finding;
 use store::LiveCount;
 use store::Removal;
@@ -237,14 +240,14 @@ pub extern "C" fn panako_index_build(
     limit: u32,
     answer: &mut [u64; 8],
 )
-    ensures { λ _. ⌜ now (answer .exit) ≡ answerWords (runBuild 5 (words (now (refs .entry)) (now (postings .entry)) (now (stopped .entry))) limit (now (hashes .entry)) (now (lengths .entry)) (now (rates .entry)) .0) ⌝ }
-    ensures { λ _. ⌜ now (refs .exit) ≡ runBuild 5 (words (now (refs .entry)) (now (postings .entry)) (now (stopped .entry))) limit (now (hashes .entry)) (now (lengths .entry)) (now (rates .entry)) .1 .references ⌝ }
-    ensures { λ _. ⌜ now (postings .exit) ≡ runBuild 5 (words (now (refs .entry)) (now (postings .entry)) (now (stopped .entry))) limit (now (hashes .entry)) (now (lengths .entry)) (now (rates .entry)) .1 .postings ⌝ }
-    ensures { λ _. ⌜ now (stopped .exit) ≡ runBuild 5 (words (now (refs .entry)) (now (postings .entry)) (now (stopped .entry))) limit (now (hashes .entry)) (now (lengths .entry)) (now (rates .entry)) .1 .stopped ⌝ }
+    ensures { λ _. ⌜ now (answer .exit) ≡ answerWords (run panako (words (now (refs .entry)) (now (postings .entry)) (now (stopped .entry))) (build limit (now (hashes .entry)) (now (lengths .entry)) (now (rates .entry))) .0) ⌝ }
+    ensures { λ _. ⌜ now (refs .exit) ≡ run panako (words (now (refs .entry)) (now (postings .entry)) (now (stopped .entry))) (build limit (now (hashes .entry)) (now (lengths .entry)) (now (rates .entry))) .1 .references ⌝ }
+    ensures { λ _. ⌜ now (postings .exit) ≡ run panako (words (now (refs .entry)) (now (postings .entry)) (now (stopped .entry))) (build limit (now (hashes .entry)) (now (lengths .entry)) (now (rates .entry))) .1 .postings ⌝ }
+    ensures { λ _. ⌜ now (stopped .exit) ≡ run panako (words (now (refs .entry)) (now (postings .entry)) (now (stopped .entry))) (build limit (now (hashes .entry)) (now (lengths .entry)) (now (rates .entry))) .1 .stopped ⌝ }
 {
     put_building(
         answer,
-        building::build(refs, postings, stopped, hashes, lengths, rates, 5, limit),
+        PanakoIndex::build(refs, postings, stopped, hashes, lengths, rates, limit),
     );
 }
 
@@ -258,14 +261,14 @@ pub extern "C" fn panako_index_insert(
     limit: u32,
     answer: &mut [u64; 8],
 )
-    ensures { λ _. ⌜ now (answer .exit) ≡ answerWords (runInsert 5 (words (now (refs .entry)) (now (postings .entry)) (now (stopped .entry))) limit rate (now (hashes .entry)) .0) ⌝ }
-    ensures { λ _. ⌜ now (refs .exit) ≡ runInsert 5 (words (now (refs .entry)) (now (postings .entry)) (now (stopped .entry))) limit rate (now (hashes .entry)) .1 .references ⌝ }
-    ensures { λ _. ⌜ now (postings .exit) ≡ runInsert 5 (words (now (refs .entry)) (now (postings .entry)) (now (stopped .entry))) limit rate (now (hashes .entry)) .1 .postings ⌝ }
-    ensures { λ _. ⌜ now (stopped .exit) ≡ runInsert 5 (words (now (refs .entry)) (now (postings .entry)) (now (stopped .entry))) limit rate (now (hashes .entry)) .1 .stopped ⌝ }
+    ensures { λ _. ⌜ now (answer .exit) ≡ answerWords (run panako (words (now (refs .entry)) (now (postings .entry)) (now (stopped .entry))) (insert limit rate (now (hashes .entry))) .0) ⌝ }
+    ensures { λ _. ⌜ now (refs .exit) ≡ run panako (words (now (refs .entry)) (now (postings .entry)) (now (stopped .entry))) (insert limit rate (now (hashes .entry))) .1 .references ⌝ }
+    ensures { λ _. ⌜ now (postings .exit) ≡ run panako (words (now (refs .entry)) (now (postings .entry)) (now (stopped .entry))) (insert limit rate (now (hashes .entry))) .1 .postings ⌝ }
+    ensures { λ _. ⌜ now (stopped .exit) ≡ run panako (words (now (refs .entry)) (now (postings .entry)) (now (stopped .entry))) (insert limit rate (now (hashes .entry))) .1 .stopped ⌝ }
 {
     put_insertion(
         answer,
-        insertion::insert(refs, postings, stopped, hashes, 5, rate, limit),
+        PanakoIndex::insert(refs, postings, stopped, hashes, rate, limit),
     );
 }
 
@@ -277,12 +280,12 @@ pub extern "C" fn panako_index_remove(
     id: u32,
     answer: &mut [u64; 8],
 )
-    ensures { λ _. ⌜ now (answer .exit) ≡ answerWords (runRemove 5 (words (now (refs .entry)) (now (postings .entry)) (now (stopped .entry))) id .0) ⌝ }
-    ensures { λ _. ⌜ now (refs .exit) ≡ runRemove 5 (words (now (refs .entry)) (now (postings .entry)) (now (stopped .entry))) id .1 .references ⌝ }
-    ensures { λ _. ⌜ now (postings .exit) ≡ runRemove 5 (words (now (refs .entry)) (now (postings .entry)) (now (stopped .entry))) id .1 .postings ⌝ }
-    ensures { λ _. ⌜ now (stopped .exit) ≡ runRemove 5 (words (now (refs .entry)) (now (postings .entry)) (now (stopped .entry))) id .1 .stopped ⌝ }
+    ensures { λ _. ⌜ now (answer .exit) ≡ answerWords (run panako (words (now (refs .entry)) (now (postings .entry)) (now (stopped .entry))) (remove id) .0) ⌝ }
+    ensures { λ _. ⌜ now (refs .exit) ≡ run panako (words (now (refs .entry)) (now (postings .entry)) (now (stopped .entry))) (remove id) .1 .references ⌝ }
+    ensures { λ _. ⌜ now (postings .exit) ≡ run panako (words (now (refs .entry)) (now (postings .entry)) (now (stopped .entry))) (remove id) .1 .postings ⌝ }
+    ensures { λ _. ⌜ now (stopped .exit) ≡ run panako (words (now (refs .entry)) (now (postings .entry)) (now (stopped .entry))) (remove id) .1 .stopped ⌝ }
 {
-    put_removal(answer, store::remove(refs, postings, stopped, 5, id));
+    put_removal(answer, PanakoIndex::remove(refs, postings, stopped, id));
 }
 
 #[no_mangle]
@@ -292,7 +295,65 @@ pub extern "C" fn panako_index_live_count(
     stopped: &[u32],
     answer: &mut [u64; 8],
 )
-    ensures { λ _. ⌜ now (answer .exit) ≡ answerWords (runCount 5 (words (now (refs .entry)) (now (postings .entry)) (now (stopped .entry))) .0) ⌝ }
+    ensures { λ _. ⌜ now (answer .exit) ≡ answerWords (run panako (words (now (refs .entry)) (now (postings .entry)) (now (stopped .entry))) liveCount .0) ⌝ }
 {
-    put_count(answer, store::live_count(refs, postings, stopped, 5));
+    put_count(answer, PanakoIndex::live_count(refs, postings, stopped));
+}
+
+fn panako_config(
+    scale_min: u32,
+    scale_max: u32,
+    scale_bins: u32,
+    tolerance: u32,
+    min_votes: u32,
+    min_score: u32,
+    min_prominence: u32,
+) -> PanakoMatchConfig
+    ensures { λ r. ⌜ r ≡ panakoConfig «scale_min» «scale_max» «scale_bins» tolerance «min_votes» «min_score» «min_prominence» ⌝ }
+{
+    PanakoMatchConfig {
+        scale_min: floats::f32_from_bits(scale_min),
+        scale_max: floats::f32_from_bits(scale_max),
+        scale_bins,
+        offset_tolerance_frames: tolerance,
+        min_votes,
+        min_score: floats::f32_from_bits(min_score),
+        min_prominence: floats::f32_from_bits(min_prominence),
+    }
+}
+
+#[no_mangle]
+pub extern "C" fn panako_index_query(
+    refs: &[u32],
+    postings: &[u32],
+    stopped: &[u32],
+    scratch: &mut [i64],
+    hashes: &[u32],
+    rate: u32,
+    scale_min: u32,
+    scale_max: u32,
+    scale_bins: u32,
+    tolerance: u32,
+    min_votes: u32,
+    min_score: u32,
+    min_prominence: u32,
+    answer: &mut [u64; 8],
+)
+    ensures { λ _. ⌜ now (answer .exit) ≡ answerWords (run panako (words (now (refs .entry)) (now (postings .entry)) (now (stopped .entry))) (query (panakoAsked (now (hashes .entry)) rate «scale_min» «scale_max» «scale_bins» tolerance «min_votes» «min_score» «min_prominence» (length (now (scratch .entry))))) .0) ⌝ }
+    ensures { λ _. ⌜ now (scratch .exit) ≡ scratchAfter (run panako (words (now (refs .entry)) (now (postings .entry)) (now (stopped .entry))) (query (panakoAsked (now (hashes .entry)) rate «scale_min» «scale_max» «scale_bins» tolerance «min_votes» «min_score» «min_prominence» (length (now (scratch .entry))))) .0) (now (scratch .entry)) ⌝ }
+{
+    let cfg = panako_config(
+        scale_min,
+        scale_max,
+        scale_bins,
+        tolerance,
+        min_votes,
+        min_score,
+        min_prominence,
+    );
+    let fps = floats::f32_from_bits(rate);
+    put_finding(
+        answer,
+        PanakoIndex::query(refs, postings, stopped, scratch, hashes, fps, cfg),
+    );
 }

@@ -1,0 +1,26 @@
+-- The words of a query's votes in the order in which they are gathered (document 01: "For each query hash, the part of the postings under
+-- its key is handed on"). Hashes and postings are entries of words, the key first. Definitions only. Assumes nothing.
+use mathlib.Core.List.{List, [], _∷_, _++_, map}
+use Prim.Native.Nat.{ℕ, suc}
+use lib.IntN.{ℤ}
+use Rattle.lists.specs.Lists.{flat}
+use Rattle.lists.specs.Keys.{under}
+use Rattle.lists.specs.Entries.{keyOf}
+
+-- the postings under the key of query hash h
+abbrev pub found : List (List ℕ) → List ℕ → List (List ℕ)
+found es h = under keyOf (keyOf h) es
+
+-- pair i h e has the words of the votes, none or one, of the query hash h at position i and the posting e
+abbrev pub Pairing : Type 0
+Pairing = ℕ → List ℕ → List ℕ → List ℤ
+
+module _ (pair : Pairing) where
+  -- those of one query hash
+  unfoldable pub wordsOf : ℕ → List (List ℕ) → List ℕ → List ℤ
+  wordsOf i es h = flat (map (pair i h) (found es h))
+
+  -- and of all, the first being at position i
+  unfoldable pub wordsFrom : ℕ → List (List ℕ) → List (List ℕ) → List ℤ
+  wordsFrom i es [] = []
+  wordsFrom i es (h ∷ hs) = wordsOf i es h ++ wordsFrom (suc i) es hs

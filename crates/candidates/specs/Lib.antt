@@ -1,0 +1,3 @@
+-- The words of a query's votes, and its candidates from them.
+pub mod Gathered
+pub mod Candidates

@@ -1,0 +1,5 @@
+pub mod Decimals
+pub mod Puts
+pub mod Decoding
+pub mod Steps
+pub mod Cards

@@ -1,0 +1,67 @@
+-- The sheet's lines. Definitions only. Assumes nothing.
+use mathlib.Core.Bool.{Bool, true, false, cond}
+use mathlib.Core.List.{List, [], _∷_, _++_}
+use Prim.Native.Nat.{ℕ}
+use lib.IntN.{ℤ}
+use lib.Signed.{nonNeg}
+use lib.Ieee.{Float, binary32, toBits}
+use Rattle.matching.specs.declared.MatchResult.{MatchResult}
+use Rattle.matching.specs.declared.TimeOffset.{TimeOffset}
+use Rattle.model.specs.Calls.{Answer, built, stored, removed, count, best, nothing, refused}
+use Rattle.card.specs.Bytes.{decimal, signed, bits}
+
+-- a field behind a blank
+abbrev pub field : List ℕ → List ℕ
+field text = 32 ∷ text
+
+abbrev pub newline : List ℕ
+newline = 10 ∷ []
+
+-- "The header `sheet 1` is always the first line."
+abbrev pub header : List ℕ
+header = 115 ∷ 104 ∷ 101 ∷ 101 ∷ 116 ∷ 32 ∷ 49 ∷ 10 ∷ []
+
+-- "end: records."
+abbrev pub endLine : ℕ → List ℕ
+endLine n = 101 ∷ 110 ∷ 100 ∷ [] ++ field (decimal n) ++ newline
+
+-- "prints `X` and the decimal offset"
+abbrev pub faultLine : ℕ → List ℕ
+faultLine offset = 88 ∷ [] ++ field (decimal offset) ++ newline
+
+-- "place (E if frames < 0, else I)"
+abbrev pub place : ℤ → ℕ
+place frames = cond (nonNeg frames) 73 69
+
+-- 1 or 0
+abbrev pub flag : Bool → ℕ
+flag true = 49
+flag false = 48
+
+-- "Bits print as eight uppercase hexadecimal digits"
+abbrev pub floatBits : Float → List ℕ
+floatBits x = bits (toBits binary32 x)
+
+-- frames, ms, place
+unfoldable pub offsetText : TimeOffset → List ℕ
+offsetText t = field (signed (t .frames)) ++ field (signed (t .ms)) ++ field (place (t .frames) ∷ [])
+
+-- "M: id, votes, score bits, prominence bits, frames, ms, place"
+unfoldable pub matchText : ℕ → MatchResult → List ℕ
+matchText id r =
+    77 ∷ [] ++ field (decimal id) ++ field (decimal (r .votes)) ++ field (floatBits (r .score)) ++ field (floatBits (r .prominence))
+    ++ offsetText (r .offset)
+
+-- "A: id stored." "D: id, 1 or 0." "N: none." "R and a number: refused." The id of a removal is its record's. The sheet asks neither for
+-- a build nor for a count, which have no line of their own.
+abbrev pub answerText : ℕ → Answer → List ℕ
+answerText asked built = []
+answerText asked (stored id) = 65 ∷ [] ++ field (decimal id)
+answerText asked (removed b) = 68 ∷ [] ++ field (decimal asked) ++ field (flag b ∷ [])
+answerText asked (count n) = []
+answerText asked (best id r) = matchText id r
+answerText asked nothing = 78 ∷ []
+answerText asked (refused n) = 82 ∷ [] ++ field (decimal n)
+
+abbrev pub answerLine : ℕ → Answer → List ℕ
+answerLine asked a = answerText asked a ++ newline

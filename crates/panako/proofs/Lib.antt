@@ -1,0 +1,2 @@
+-- The claim about histories for PanakoIndex.
+pub mod Demand3

@@ -1,0 +1,116 @@
+// PanakoIndex on a lent store: three slices of words, as document 01's "The lent store" lays them out. No call asks anything of what it is
+// lent: it is worked on, or refused with a number and left as it was. `run panako` is the model's account of the calls (crate `model`,
+// specs/Run.antt), of which specs/Demand3.antt states the claim about histories.
+ghost use mathlib.Core.Path.{_≡_};
+ghost use lib.ListN.{length};
+ghost use Rattle.model.specs.Calls.{build, insert, remove, liveCount, query};
+ghost use Rattle.model.specs.Run.{run};
+ghost use Rattle.soundness.specs.Scan.{words};
+ghost use Rattle.building.specs.Answers.{buildingAnswer};
+ghost use Rattle.insertion.specs.Insert.{insertionAnswer};
+ghost use Rattle.store.specs.Answers.{countAnswer, removalAnswer};
+ghost use Rattle.ranking.specs.Answers.{findingAnswer, scratchAfter};
+ghost use Rattle.panako_judging.specs.Scheme.{panako};
+ghost use Rattle.panako_querying.specs.Asked.{asked};
+use building::Building;
+use insertion::Insertion;
+use panako_vote::PanakoMatchConfig;
+use ranking::Finding;
+use store::LiveCount;
+use store::Removal;
+
+// The words of a posting: key, id, t_anchor, t_b, t_c.
+const WIDTH: usize = 5;
+
+pub struct PanakoIndex {}
+
+impl PanakoIndex {
+    // Overwrites the store with the recordings whose hashes, key, t_anchor, t_b and t_c each, stand in one slice, one length and one rate's bits to a
+    // recording. A key with more postings than the limit is stopped.
+    pub fn build(
+        refs: &mut [u32],
+        postings: &mut [u32],
+        stopped: &mut [u32],
+        hashes: &[u32],
+        lengths: &[u32],
+        rates: &[u32],
+        limit: u32,
+    ) -> Building
+        ensures { λ r. ⌜ buildingAnswer r ≡ run panako (words (now (refs .entry)) (now (postings .entry)) (now (stopped .entry))) (build limit (now (hashes .entry)) (now (lengths .entry)) (now (rates .entry))) .0 ⌝ }
+        ensures { λ _. ⌜ now (refs .exit) ≡ run panako (words (now (refs .entry)) (now (postings .entry)) (now (stopped .entry))) (build limit (now (hashes .entry)) (now (lengths .entry)) (now (rates .entry))) .1 .references ⌝ }
+        ensures { λ _. ⌜ now (postings .exit) ≡ run panako (words (now (refs .entry)) (now (postings .entry)) (now (stopped .entry))) (build limit (now (hashes .entry)) (now (lengths .entry)) (now (rates .entry))) .1 .postings ⌝ }
+        ensures { λ _. ⌜ now (stopped .exit) ≡ run panako (words (now (refs .entry)) (now (postings .entry)) (now (stopped .entry))) (build limit (now (hashes .entry)) (now (lengths .entry)) (now (rates .entry))) .1 .stopped ⌝ }
+    {
+        building::build(
+            refs,
+            postings,
+            stopped,
+            hashes,
+            lengths,
+            rates,
+            WIDTH,
+            limit,
+        )
+    }
+
+    // Stores one more recording, and answers its id.
+    pub fn insert(
+        refs: &mut [u32],
+        postings: &mut [u32],
+        stopped: &mut [u32],
+        hashes: &[u32],
+        rate: u32,
+        limit: u32,
+    ) -> Insertion
+        ensures { λ r. ⌜ insertionAnswer r ≡ run panako (words (now (refs .entry)) (now (postings .entry)) (now (stopped .entry))) (insert limit rate (now (hashes .entry))) .0 ⌝ }
+        ensures { λ _. ⌜ now (refs .exit) ≡ run panako (words (now (refs .entry)) (now (postings .entry)) (now (stopped .entry))) (insert limit rate (now (hashes .entry))) .1 .references ⌝ }
+        ensures { λ _. ⌜ now (postings .exit) ≡ run panako (words (now (refs .entry)) (now (postings .entry)) (now (stopped .entry))) (insert limit rate (now (hashes .entry))) .1 .postings ⌝ }
+        ensures { λ _. ⌜ now (stopped .exit) ≡ run panako (words (now (refs .entry)) (now (postings .entry)) (now (stopped .entry))) (insert limit rate (now (hashes .entry))) .1 .stopped ⌝ }
+    {
+        insertion::insert(refs, postings, stopped, hashes, WIDTH, rate, limit)
+    }
+
+    // Removes a recording, and answers whether it was live.
+    pub fn remove(refs: &mut [u32], postings: &mut [u32], stopped: &[u32], id: u32) -> Removal
+        ensures { λ r. ⌜ removalAnswer r ≡ run panako (words (now (refs .entry)) (now (postings .entry)) (now (stopped .entry))) (remove id) .0 ⌝ }
+        ensures { λ _. ⌜ now (refs .exit) ≡ run panako (words (now (refs .entry)) (now (postings .entry)) (now (stopped .entry))) (remove id) .1 .references ⌝ }
+        ensures { λ _. ⌜ now (postings .exit) ≡ run panako (words (now (refs .entry)) (now (postings .entry)) (now (stopped .entry))) (remove id) .1 .postings ⌝ }
+        ensures { λ _. ⌜ now (stopped .entry) ≡ run panako (words (now (refs .entry)) (now (postings .entry)) (now (stopped .entry))) (remove id) .1 .stopped ⌝ }
+    {
+        store::remove(refs, postings, stopped, WIDTH, id)
+    }
+
+    // How many recordings are live.
+    pub fn live_count(refs: &[u32], postings: &[u32], stopped: &[u32]) -> LiveCount
+        ensures { λ r. ⌜ countAnswer r ≡ run panako (words (now (refs .entry)) (now (postings .entry)) (now (stopped .entry))) liveCount .0 ⌝ }
+        ensures { λ _. ⌜ words (now (refs .entry)) (now (postings .entry)) (now (stopped .entry)) ≡ run panako (words (now (refs .entry)) (now (postings .entry)) (now (stopped .entry))) liveCount .1 ⌝ }
+    {
+        store::live_count(refs, postings, stopped, WIDTH)
+    }
+
+    // The best recording for a query of hashes, key, t_anchor, t_b and t_c each, with its result. The store is left as it is; of the scratch, 12 words
+    // a vote, an accepted query leaves zeros.
+    pub fn query(
+        refs: &[u32],
+        postings: &[u32],
+        stopped: &[u32],
+        scratch: &mut [i64],
+        hashes: &[u32],
+        frames_per_sec: f32,
+        cfg: PanakoMatchConfig,
+    ) -> Finding
+        ensures { λ r. ⌜ findingAnswer r ≡ run panako (words (now (refs .entry)) (now (postings .entry)) (now (stopped .entry))) (query (asked cfg «frames_per_sec» (now (hashes .entry)) (length (now (scratch .entry))))) .0 ⌝ }
+        ensures { λ _. ⌜ words (now (refs .entry)) (now (postings .entry)) (now (stopped .entry)) ≡ run panako (words (now (refs .entry)) (now (postings .entry)) (now (stopped .entry))) (query (asked cfg «frames_per_sec» (now (hashes .entry)) (length (now (scratch .entry))))) .1 ⌝ }
+        ensures { λ _. ⌜ now (scratch .exit) ≡ scratchAfter (run panako (words (now (refs .entry)) (now (postings .entry)) (now (stopped .entry))) (query (asked cfg «frames_per_sec» (now (hashes .entry)) (length (now (scratch .entry))))) .0) (now (scratch .entry)) ⌝ }
+    {
+        panako_querying::query(
+            refs,
+            postings,
+            stopped,
+            scratch,
+            hashes,
+            frames_per_sec,
+            cfg,
+        )
+    }
+}

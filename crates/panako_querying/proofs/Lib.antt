@@ -1,0 +1,5 @@
+-- Laws of a Panako query's votes and candidates.
+pub mod Pairs
+pub mod Turns
+pub mod Sorted
+pub mod Queries

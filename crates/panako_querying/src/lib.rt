@@ -1,0 +1,110 @@
+// The query of PanakoIndex: votes are counted against the scratch, gathered, sorted, and judged candidate by candidate.
+ghost use mathlib.Core.Path.{_≡_};
+ghost use Prim.Native.Nat.{_*_, _/_, _≤_};
+ghost use lib.ListN.{length, getD, take};
+ghost use Rattle.model.specs.Fingerprints.{hashesOf};
+ghost use Rattle.model.specs.Run.{runQuery};
+ghost use Rattle.soundness.specs.Scan.{words};
+ghost use Rattle.ranking.specs.Answers.{bestSoFar, findingAnswer, scratchAfter};
+ghost use Rattle.panako_vote.specs.Grids.{gridOf};
+ghost use Rattle.panako_judging.specs.Scheme.{queryOf, panako};
+ghost use Rattle.panako_querying.specs.Asked.{asked};
+ghost use Rattle.panako_querying.specs.Candidates.{bestIn, wordsIn, answerIn, Votes, Posted};
+use panako_judging::PanakoQuery;
+use panako_vote::PanakoMatchConfig;
+use panako_vote::ScaleGrid;
+use ranking::Best;
+use ranking::Finding;
+
+const LOWEST: u64 = 0x8000_0000_0000_0000;
+
+// The best candidate by the first v words, which are votes in ascending order. Bins are written from word 2 * v on.
+fn best_of(s: &mut [i64], v: usize, refs: &[u32], q: PanakoQuery) -> Best
+    requires { ⌜ Votes (now refs) (now s) v q ⌝ }
+    ensures { λ r. ⌜ bestSoFar r ≡ bestIn q (now (refs .entry)) (take v (now (s .entry))) ⌝ }
+{
+    let mut best = Best::Nothing;
+    let mut i = 0;
+    while i < v {
+        let e = bins::run_end(s, i, v, LOWEST, 52);
+        let id = bins::lead_at(s, i, LOWEST, 52);
+        let rate = rows::row_word(refs, id as usize, 0);
+        best = candidates::keep(
+            best,
+            id as u32,
+            panako_judging::judge(s, i, e - i, 2 * v, q, rate),
+        );
+        i = e;
+    }
+    best
+}
+
+// The best candidate by the votes of the query's hashes, which are gathered and sorted in the scratch. `g` is the scale grid.
+fn best_candidate(
+    s: &mut [i64],
+    refs: &[u32],
+    posts: &[u32],
+    p: usize,
+    hashes: &[u32],
+    q: PanakoQuery,
+    g: ScaleGrid,
+) -> Best
+    requires { ⌜ Posted (now refs) (now posts) (now hashes) q × (p ≡ getD (now refs) 2 0) × (g ≡ gridOf (q .cfg))
+        × (length (wordsIn q (now refs) (now posts) (now hashes)) ≤ 1000000) × (5 * length (wordsIn q (now refs) (now posts) (now hashes)) ≤ length (now s)) ⌝ }
+    ensures { λ r. ⌜ bestSoFar r ≡ bestIn q (now (refs .entry)) (wordsIn q (now (refs .entry)) (now (posts .entry)) (now (hashes .entry))) ⌝ }
+{
+    let v = panako_voting::gather(s, posts, p, hashes, q.q_len, g);
+    sorting::sort_words(s, v);
+    best_of(s, v, refs, q)
+}
+
+// The answer of a query to which no refusal before 8 applies. An accepted one leaves zeros in the scratch.
+fn search(s: &mut [i64], refs: &[u32], posts: &[u32], hashes: &[u32], q: PanakoQuery) -> Finding
+    requires { ⌜ Posted (now refs) (now posts) (now hashes) q × (length (now s) / 12 ≤ 1000000) ⌝ }
+    ensures { λ r. ⌜ findingAnswer r ≡ answerIn q (length (now (s .entry)) / 12) (now (refs .entry)) (now (posts .entry)) (now (hashes .entry)) ⌝ }
+    ensures { λ _. ⌜ now (s .exit) ≡ scratchAfter (answerIn q (length (now (s .entry)) / 12) (now (refs .entry)) (now (posts .entry)) (now (hashes .entry))) (now (s .entry)) ⌝ }
+{
+    let room = s.len() / 12;
+    let p = rows::header(refs).postings;
+    let g = panako_vote::scale_grid(q.cfg);
+    if room < panako_voting::count_votes(posts, p, hashes, q.q_len, g, room) {
+        return Finding::Refused(8);
+    }
+    let best = best_candidate(s, refs, posts, p, hashes, q, g);
+    maps::zero_words(s);
+    ranking::answer_of(best)
+}
+
+// What every candidate is judged with: the settings after `normalize_config`.
+fn query_of(hashes: &[u32], frames_per_sec: f32, cfg: PanakoMatchConfig) -> PanakoQuery
+    ensures { λ r. ⌜ r ≡ queryOf (record { cfg = cfg; rate = «frames_per_sec» }) (hashesOf 5 (now (hashes .entry))) ⌝ }
+{
+    PanakoQuery {
+        cfg: panako_vote::normalize_config(cfg),
+        frames_per_sec,
+        q_len: hashes.len() / 4,
+    }
+}
+
+// The best recording for a query, with its result. The store is left as it is, and of the scratch an accepted query leaves zeros.
+pub fn query(
+    refs: &[u32],
+    posts: &[u32],
+    stops: &[u32],
+    s: &mut [i64],
+    hashes: &[u32],
+    frames_per_sec: f32,
+    cfg: PanakoMatchConfig,
+) -> Finding
+    ensures { λ r. ⌜ findingAnswer r ≡ runQuery panako (words (now (refs .entry)) (now (posts .entry)) (now (stops .entry))) (asked cfg «frames_per_sec» (now (hashes .entry)) (length (now (s .entry)))) .0 ⌝ }
+    ensures { λ _. ⌜ words (now (refs .entry)) (now (posts .entry)) (now (stops .entry)) ≡ runQuery panako (words (now (refs .entry)) (now (posts .entry)) (now (stops .entry))) (asked cfg «frames_per_sec» (now (hashes .entry)) (length (now (s .entry)))) .1 ⌝ }
+    ensures { λ _. ⌜ now (s .exit) ≡ scratchAfter (runQuery panako (words (now (refs .entry)) (now (posts .entry)) (now (stops .entry))) (asked cfg «frames_per_sec» (now (hashes .entry)) (length (now (s .entry)))) .0) (now (s .entry)) ⌝ }
+{
+    let q = query_of(hashes, frames_per_sec, cfg);
+    let beyond = !panako_vote::within_limits(q.cfg);
+    let r = refusals::of_query(refs, posts, stops, 5, s.len(), 12, hashes, beyond);
+    if r != 0 {
+        return Finding::Refused(r);
+    }
+    search(s, refs, posts, hashes, q)
+}

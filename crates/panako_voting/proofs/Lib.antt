@@ -1,0 +1,3 @@
+-- Laws of the votes of a query.
+pub mod Pairs
+pub mod Walks

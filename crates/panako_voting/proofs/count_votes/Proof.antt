@@ -1,0 +1,146 @@
+-- `panako_voting::count_votes` meets its contract: at the outer loop's test v is the number of votes of the first i query hashes, at the
+-- inner one's those with the first j postings of a part come to them, and neither passes the room. Assumes nothing.
+use mathlib.Core.Path.{_≡_, refl, sym, ap}
+use Prim.Native.Nat.{_-_, _≤_}
+use native.Mathlib.Omega.{arith}
+use lib.ListN.{length}
+use Rattle.panako_voting.proofs.Walks.{before, before-all, before-none, Counting, counting-none, counting-room, counting-more, counting-all, counting-over}
+use borrow.Author.Needs.{needs}
+use Rattle.panako_voting.proofs.count_votes.Statement.{statement}
+use Rattle.panako_voting.proofs.count_votes.Tie as tie
+
+abbrev Inv-loop : tie.InvT-loop
+Inv-loop posts p hashes m g room v₀ i k qa qc part n j₀ v j = Counting g posts p hashes room i qa qc part n v j
+
+abbrev μ-loop : tie.MeasureT-loop
+μ-loop posts p hashes m g room v₀ i k qa qc part n j₀ v j = n - j
+
+abbrev Inv-hashes : tie.InvT-hashes
+Inv-hashes posts p hashes m g room v₀ i₀ v i = (v ≡ length (before g posts p hashes i)) × (v ≤ room) × (i ≤ m)
+
+abbrev μ-hashes : tie.MeasureT-hashes
+μ-hashes posts p hashes m g room v₀ i₀ v i = m - i
+
+hashes-holds : tie.Need-hashes-holds Inv-loop μ-loop Inv-hashes μ-hashes
+hashes-holds c = let a = c .before .before .args in (sym (ap length (before-none (a .g) (a .posts .now) (a .p) (a .hashes .now))), omega arith, omega arith)
+
+mul-k : tie.Need-mul-k Inv-loop μ-loop Inv-hashes μ-hashes
+mul-k c = search needs
+
+add-qa : tie.Need-add-qa Inv-loop μ-loop Inv-hashes μ-hashes
+add-qa c = search needs
+
+mul-qa : tie.Need-mul-qa Inv-loop μ-loop Inv-hashes μ-hashes
+mul-qa c = search needs
+
+shared-slice-read-qa : tie.Need-shared-slice-read-qa Inv-loop μ-loop Inv-hashes μ-hashes
+shared-slice-read-qa c = search needs
+
+add-qc : tie.Need-add-qc Inv-loop μ-loop Inv-hashes μ-hashes
+add-qc c = search needs
+
+mul-qc : tie.Need-mul-qc Inv-loop μ-loop Inv-hashes μ-hashes
+mul-qc c = search needs
+
+shared-slice-read-qc : tie.Need-shared-slice-read-qc Inv-loop μ-loop Inv-hashes μ-hashes
+shared-slice-read-qc c = search needs
+
+mul-postings-of : tie.Need-mul-postings-of Inv-loop μ-loop Inv-hashes μ-hashes
+mul-postings-of c = search needs
+
+shared-slice-read-postings-of :
+    tie.Need-shared-slice-read-postings-of Inv-loop μ-loop Inv-hashes μ-hashes
+shared-slice-read-postings-of c = search needs
+
+postings-of-requires : tie.Need-postings-of-requires Inv-loop μ-loop Inv-hashes μ-hashes
+postings-of-requires c κs = let s = c .before .before .before .before .before .before .before in (omega arith, s .pre .0 .postings, s .pre .0 .ascend)
+
+loop-holds : tie.Need-loop-holds Inv-loop μ-loop Inv-hashes μ-hashes
+loop-holds c =
+    let s = c .before .before .before .before .before .before .before .before in
+    let a = s .args in
+    let l = c .before .before .before .before .before .hashes in
+    counting-none (a .g) (a .posts .now) (a .p) (a .hashes .now) (s .pre .0 .postings) (a .room) (l .i) _ _ _ _ (l .v) refl refl (c .postings-of .ensures) refl (l .inv .0) (l .inv .1)
+
+pair-count-requires : tie.Need-pair-count-requires Inv-loop μ-loop Inv-hashes μ-hashes
+pair-count-requires c κs =
+    let s = c .before .before .before .before .before .before .before .before .before .before in
+    let a = s .args in
+    let l = c .before .loop in
+    omega (arith, counting-room (a .g) (a .posts .now) (a .p) (a .hashes .now) (s .pre .0 .postings) (a .room) (c .before .before .before .before .before .before .before .hashes .i) _ _ _ _ (l .v) (l .j) (l .inv))
+
+add-v : tie.Need-add-v Inv-loop μ-loop Inv-hashes μ-hashes
+add-v c = omega (arith, c .pair-count .ensures .1, c .before .before .loop .inv .fits)
+
+add-j : tie.Need-add-j Inv-loop μ-loop Inv-hashes μ-hashes
+add-j c = search needs
+
+loop-less : tie.Need-loop-less Inv-loop μ-loop Inv-hashes μ-hashes
+loop-less c = search needs
+
+loop-again : tie.Need-loop-again Inv-loop μ-loop Inv-hashes μ-hashes
+loop-again c =
+    let s = c .before .before .before .before .before .before .before .before .before .before .before .before in
+    let a = s .args in
+    let l = c .before .before .before .loop in
+    counting-more (a .g) (a .posts .now) (a .p) (a .hashes .now) (s .pre .0 .postings) (a .room) (c .before .before .before .before .before .before .before .before .before .hashes .i) _ _ _ _ (l .v) (l .j) (l .inv) (c .before .pair-count .result) (c .before .pair-count .ensures .0) (omega arith) (omega arith)
+
+add-i : tie.Need-add-i Inv-loop μ-loop Inv-hashes μ-hashes
+add-i c = search needs
+
+hashes-less : tie.Need-hashes-less Inv-loop μ-loop Inv-hashes μ-hashes
+hashes-less c = search needs
+
+hashes-again : tie.Need-hashes-again Inv-loop μ-loop Inv-hashes μ-hashes
+hashes-again c =
+    let s = c .before .before .before .before .before .before .before .before .before .before in
+    let a = s .args in
+    let l = c .before .loop in
+    (counting-all (a .g) (a .posts .now) (a .p) (a .hashes .now) (s .pre .0 .postings) (a .room) (c .before .before .before .before .before .before .before .hashes .i) _ _ _ _ (l .v) (l .j) (l .inv) (omega (arith, l .inv .on)), l .inv .fits, omega arith)
+
+returns : tie.Need-returns Inv-loop μ-loop Inv-hashes μ-hashes
+returns c =
+    let a = c .before .before .before .before .args in
+    let l = c .before .hashes in
+    let e : l .i ≡ a .m = omega arith in
+    let q = rw e at (l .inv .0) in
+    omega (arith, q, ap length (before-all (a .g) (a .posts .now) (a .p) (a .hashes .now) (a .m)))
+
+returns-2 : tie.Need-returns-2 Inv-loop μ-loop Inv-hashes μ-hashes
+returns-2 c =
+    let s = c .before .before .before .before .before .before .before .before .before .before .before .before in
+    let a = s .args in
+    let l = c .before .before .before .loop in
+    let o = counting-over (a .g) (a .posts .now) (a .p) (a .hashes .now) (s .pre .0 .postings) (a .room) (c .before .before .before .before .before .before .before .before .before .hashes .i) _ _ _ _ (l .v) (l .j) (l .inv) (c .before .pair-count .result) (c .before .pair-count .ensures .0) (omega arith) (a .m) (omega arith) in
+    omega (arith, o, ap length (before-all (a .g) (a .posts .now) (a .p) (a .hashes .now) (a .m)), c .before .pair-count .ensures .1, l .inv .fits)
+
+pub count-votes-spec : {M : Type 1} → statement M
+count-votes-spec =
+    tie.close
+    (tie.spec
+    Inv-loop
+    μ-loop
+    Inv-hashes
+    μ-hashes
+    hashes-holds
+    mul-k
+    add-qa
+    mul-qa
+    shared-slice-read-qa
+    add-qc
+    mul-qc
+    shared-slice-read-qc
+    mul-postings-of
+    shared-slice-read-postings-of
+    postings-of-requires
+    loop-holds
+    pair-count-requires
+    add-v
+    add-j
+    loop-less
+    loop-again
+    add-i
+    hashes-less
+    hashes-again
+    returns
+    returns-2)

@@ -1,0 +1,2 @@
+-- The votes of a Panako query.
+pub mod Gathered

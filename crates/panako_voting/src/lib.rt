@@ -1,0 +1,155 @@
+// The votes of a Panako query: counted, then gathered as words into lent scratch.
+ghost use mathlib.Core.Path.{_≡_};
+ghost use mathlib.Core.Bool.{true};
+ghost use mathlib.Core.List.{_++_};
+ghost use Prim.Native.Nat.{_+_, _*_, _≤_, _<_, _^_, min};
+ghost use lib.ListN.{length, getD, take};
+ghost use Rattle.lists.specs.Keys.{under};
+ghost use Rattle.lists.specs.Entries.{entries, entryAt, keyOf, keysAscend};
+ghost use Rattle.panako_vote.specs.Grids.{Limited};
+ghost use Rattle.panako_voting.specs.Gathered.{votesWith, wordsWith, words, voteCount, wordsOn, Ids, Walk, Packable};
+use panako_vote::ScaleGrid;
+use panako_vote::Vote;
+
+fn wide(x: u32) -> u64
+    ensures { λ r. ⌜ (r ≡ x) × (r < 2 ^ 32) ⌝ }
+{
+    x as u64
+}
+
+// How many votes a query hash at qa .. qc has with posting j of a part: none or one.
+fn pair_count(g: ScaleGrid, qa: u32, qc: u32, part: &[u32], j: usize) -> usize
+    requires { ⌜ 5 * j + 5 ≤ length (now part) ⌝ }
+    ensures { λ r. ⌜ (r ≡ length (wordsWith g qa qc (entryAt 5 j (now (part .entry))))) × (r ≤ 1) ⌝ }
+{
+    let k = 5 * j;
+    if panako_vote::has_vote(g, qa, qc, part[k + 2], part[k + 4]) {
+        return 1;
+    }
+    0
+}
+
+// The votes of m query hashes with p postings. They are held at one more than the room: the counting ends at the vote that passes it.
+pub fn count_votes(
+    posts: &[u32],
+    p: usize,
+    hashes: &[u32],
+    m: usize,
+    g: ScaleGrid,
+    room: usize,
+) -> usize
+    requires { ⌜ Walk (now posts) p (now hashes) m × (room ≤ 1000000) ⌝ }
+    ensures { λ r. ⌜ r ≡ min (room + 1) (voteCount g (entries 5 p (now (posts .entry))) (entries 4 m (now (hashes .entry)))) ⌝ }
+{
+    let mut v = 0;
+    let mut i = 0;
+    'hashes: while i < m {
+        let k = 4 * i;
+        let qa = hashes[k + 1];
+        let qc = hashes[k + 3];
+        let part = maps::postings_of(posts, 5, p, hashes[k]);
+        let n = part.len() / 5;
+        let mut j = 0;
+        while j < n {
+            v += pair_count(g, qa, qc, part, j);
+            if room < v {
+                break 'hashes;
+            }
+            j += 1;
+        }
+        i += 1;
+    }
+    v
+}
+
+// The vote of a query hash at qa .. qc and posting j of a part, if they have one, goes to word `at`. Yields where the votes end.
+fn put_pair(
+    s: &mut [i64],
+    at: usize,
+    part: &[u32],
+    j: usize,
+    g: ScaleGrid,
+    qa: u32,
+    qc: u32,
+) -> usize
+    requires { ⌜ (at + length (wordsWith g qa qc (entryAt 5 j (now part))) ≤ length (now s)) × (5 * j + 5 ≤ length (now part)) × (getD (now part) (5 * j + 1) 0 < 2 ^ 12) × Limited g ⌝ }
+    ensures { λ r. ⌜ (r ≡ at + length (wordsWith g qa qc (entryAt 5 j (now (part .entry)))))
+        × (take r (now (s .exit)) ≡ take at (now (s .entry)) ++ wordsWith g qa qc (entryAt 5 j (now (part .entry)))) ⌝ }
+{
+    let k = 5 * j;
+    let id = wide(part[k + 1]);
+    match panako_vote::pair_vote(g, qa, qc, part[k + 2], part[k + 4]) {
+        Vote::Nothing => at,
+        Vote::At { bin, offset } => {
+            panako_judging::put_vote(s, at, id, bin, offset);
+            at + 1
+        }
+    }
+}
+
+// The votes of a query hash with n postings go to the words from `at` on. Yields where they end.
+fn gather_part(
+    s: &mut [i64],
+    at: usize,
+    part: &[u32],
+    n: usize,
+    g: ScaleGrid,
+    qa: u32,
+    qc: u32,
+) -> usize
+    requires { ⌜ (at + length (wordsOn g qa qc (entries 5 n (now part))) ≤ length (now s)) × (5 * n ≤ length (now part)) × Ids (entries 5 n (now part)) × Limited g ⌝ }
+    ensures { λ r. ⌜ (r ≡ at + length (wordsOn g qa qc (entries 5 n (now (part .entry)))))
+        × (take r (now (s .exit)) ≡ take at (now (s .entry)) ++ wordsOn g qa qc (entries 5 n (now (part .entry)))) ⌝ }
+{
+    let mut v = at;
+    let mut j = 0;
+    while j < n {
+        v = put_pair(s, v, part, j, g, qa, qc);
+        j += 1;
+    }
+    v
+}
+
+// The same with all of p postings that stand under a key.
+fn gather_key(
+    s: &mut [i64],
+    at: usize,
+    posts: &[u32],
+    p: usize,
+    key: u32,
+    g: ScaleGrid,
+    qa: u32,
+    qc: u32,
+) -> usize
+    requires { ⌜ (5 * p ≤ length (now posts)) × (keysAscend (now posts) 5 p ≡ true) × Ids (entries 5 p (now posts)) × Limited g
+        × (at + length (wordsOn g qa qc (under keyOf key (entries 5 p (now posts)))) ≤ length (now s)) ⌝ }
+    ensures { λ r. ⌜ (r ≡ at + length (wordsOn g qa qc (under keyOf key (entries 5 p (now (posts .entry))))))
+        × (take r (now (s .exit)) ≡ take at (now (s .entry)) ++ wordsOn g qa qc (under keyOf key (entries 5 p (now (posts .entry))))) ⌝ }
+{
+    let part = maps::postings_of(posts, 5, p, key);
+    let n = part.len() / 5;
+    gather_part(s, at, part, n, g, qa, qc)
+}
+
+// The votes of m query hashes with p postings, as words from the first on. Yields how many.
+pub fn gather(
+    s: &mut [i64],
+    posts: &[u32],
+    p: usize,
+    hashes: &[u32],
+    m: usize,
+    g: ScaleGrid,
+) -> usize
+    requires { ⌜ Packable (now posts) p (now hashes) m g × (voteCount g (entries 5 p (now posts)) (entries 4 m (now hashes)) ≤ length (now s)) ⌝ }
+    ensures { λ r. ⌜ (r ≡ voteCount g (entries 5 p (now (posts .entry))) (entries 4 m (now (hashes .entry))))
+        × (take r (now (s .exit)) ≡ words g (entries 5 p (now (posts .entry))) (entries 4 m (now (hashes .entry)))) ⌝ }
+{
+    let mut v = 0;
+    let mut i = 0;
+    while i < m {
+        let k = 4 * i;
+        v = gather_key(s, v, posts, p, hashes[k], g, hashes[k + 1], hashes[k + 3]);
+        i += 1;
+    }
+    v
+}

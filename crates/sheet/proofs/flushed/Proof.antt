@@ -1,0 +1,26 @@
+-- `sheet::flushed` meets its contract. Assumes nothing.
+use mathlib.Core.Path.{sym}
+use denote.Ref.{now}
+use lib.Seq.{length-take-le}
+use borrow.Author.Needs.{needs}
+use Rattle.sheet.proofs.flushed.Statement.{statement}
+use Rattle.sheet.proofs.flushed.Tie as tie
+
+sub-if1 : tie.Need-sub-if1
+sub-if1 c = search needs
+
+returns : tie.Need-returns
+returns c = search needs
+
+slice-aggregate-write-all : tie.Need-slice-aggregate-write-all
+slice-aggregate-write-all c = sym (length-take-le (c .before .before .before .args .at) (now (c .before .before .before .args .out)) (c .before .before .before .pre .0))
+
+write-all-requires : tie.Need-write-all-requires
+write-all-requires c κs = search needs
+
+returns-2 : tie.Need-returns-2
+returns-2 c = search needs
+
+pub flushed-spec : {M : Type 1} → statement M
+flushed-spec =
+    tie.close (tie.spec sub-if1 returns slice-aggregate-write-all write-all-requires returns-2)

@@ -1,0 +1,12 @@
+-- `sheet::zero_scratch` meets its contract. Assumes nothing.
+use Rattle.card.specs.Kinds.{zeroScratch}
+use mathlib.Core.Path.{refl}
+use Rattle.sheet.proofs.zero_scratch.Statement.{statement}
+use Rattle.sheet.proofs.zero_scratch.Tie as tie
+
+returns : tie.Need-returns
+unfolding zeroScratch
+returns c = refl
+
+pub zero-scratch-spec : {M : Type 1} → statement M
+zero-scratch-spec = tie.close (tie.spec returns)
