@@ -5,7 +5,7 @@ use crate::account::{built, counted, found, removed, stored};
 use crate::calls::RATE;
 use crate::capi::Answer;
 use crate::harness::Rng;
-use crate::store::{Index, Panako, Sizes, Store, Wang, write};
+use crate::store::{Content, Index, Panako, Sizes, Store, Wang, write};
 use std::hint::black_box;
 use std::time::Duration;
 
@@ -14,6 +14,9 @@ const LIMIT: u32 = 100;
 
 /// Turns of a query's measurement.
 const QUERY_TURNS: usize = 101;
+
+/// The same, where a candidate has many votes.
+const SPREAD_TURNS: usize = 21;
 
 /// `lists` recordings of `hashes` hashes with keys of `bits` bits.
 #[derive(Clone, Copy)]
@@ -274,6 +277,14 @@ fn queries(only: Option<&str>) {
             rows.extend(measure_queries::<Panako>("PanakoIndex", card, hashes));
         }
     }
+    for hashes in [500, 1000, 2000] {
+        if asked("Wang query") {
+            rows.extend(measure_spread::<Wang>("WangIndex", hashes));
+        }
+        if asked("Panako query") {
+            rows.extend(measure_spread::<Panako>("PanakoIndex", hashes));
+        }
+    }
     if rows.is_empty() {
         return;
     }
@@ -309,81 +320,158 @@ fn median(mut times: Vec<f64>) -> f64 {
     times[times.len() / 2]
 }
 
-/// A row of the table, if the library has this query: both sides in turn on
-/// the same content, each turn with other queries.
-fn measure_queries<I: Index>(name: &str, card: Card, hashes: usize) -> Option<String> {
-    let query = I::ENTRIES.query?;
-    let live_count = I::ENTRIES.live_count;
-    let rng = &mut Rng(1);
-    let lists: Vec<Vec<u32>> = (0..card.lists).map(|_| list::<I>(rng, card)).collect();
-    let fingerprint = |list: &Vec<u32>| I::fingerprint(list, RATE);
-    let index = I::build(&lists.iter().map(fingerprint).collect::<Vec<_>>(), LIMIT);
-    let content = index.content();
-    let store = write::<I>(&content, card.sizes);
-    let under = |key: u32| {
-        let place = content.map.binary_search_by_key(&key, |(key, _)| *key);
-        place.map_or(0, |place| content.map[place].1.len())
-    };
-    let config = I::Config::default();
-    let settings = I::settings(&config);
-    let mut scratch = Vec::new();
-    let mut met = Vec::new();
-    let mut times: [Vec<f64>; 4] = Default::default();
-    for _ in 0..QUERY_TURNS {
-        let mut asked = Vec::new();
-        for _ in 0..card.batch {
-            let id = rng.below(card.lists as u64) as usize;
-            let hashes = heard::<I>(rng, card, &lists[id], hashes);
-            let keys = hashes.chunks_exact(I::HASH).map(|hash| hash[0]);
-            let postings: usize = keys.map(under).sum();
-            met.push(postings as f64);
-            let room = I::VOTE * postings.next_power_of_two().max(512);
-            asked.push((I::fingerprint(&hashes, RATE), hashes, room));
-        }
-        let room = asked.iter().map(|(_, _, room)| *room).max();
-        scratch.resize(room.expect("there are queries"), 0);
-        let mut took = [f64::INFINITY; 3];
-        timed(&mut took[0], card.batch, || {
-            (0..card.batch).fold(counted(0), |_, _| live_count(black_box(store.slices())))
-        });
-        let ours: Vec<Answer> = timed(&mut took[1], card.batch, || {
-            let ask = |(_, hashes, room): &(_, Vec<u32>, usize)| {
-                query(
-                    store.slices(),
-                    &mut scratch[..*room],
-                    hashes,
-                    RATE,
-                    &settings,
-                )
-            };
-            asked.iter().map(ask).collect()
-        });
-        let rust: Vec<_> = timed(&mut took[2], card.batch, || {
-            asked
-                .iter()
-                .map(|(heard, ..)| index.query(heard, &config))
-                .collect()
-        });
-        assert!(
-            ours.into_iter().eq(rust.into_iter().map(found)),
-            "both sides answer the same"
-        );
-        let [scan, ours, rust] = took;
-        for (times, took) in times.iter_mut().zip([ours, scan, ours - scan, rust]) {
-            times.push(took);
+/// What is asked of both sides: the words of the hashes, the same as the
+/// reference's fingerprint, and the scratch in words.
+struct Asked<I: Index> {
+    hashes: Vec<u32>,
+    fingerprint: I::Fingerprint,
+    scratch: usize,
+}
+
+impl<I: Index> Asked<I> {
+    fn new(hashes: Vec<u32>, votes: usize) -> Self {
+        Self {
+            fingerprint: I::fingerprint(&hashes, RATE),
+            hashes,
+            scratch: I::VOTE * votes,
         }
     }
-    let [ours, scan, rest, rust] = times.map(median);
+}
+
+/// Both sides with the same content.
+struct Sides<I: Index> {
+    index: I,
+    content: Content<I>,
+    store: Store,
+}
+
+impl<I: Index> Sides<I> {
+    fn of(lists: &[Vec<u32>], sizes: Sizes) -> Self {
+        let fingerprint = |list: &Vec<u32>| I::fingerprint(list, RATE);
+        let index = I::build(&lists.iter().map(fingerprint).collect::<Vec<_>>(), LIMIT);
+        let content = index.content();
+        let store = write::<I>(&content, sizes);
+        Self {
+            index,
+            content,
+            store,
+        }
+    }
+
+    /// Postings that a query's hashes meet.
+    fn met(&self, hashes: &[u32]) -> usize {
+        let map = &self.content.map;
+        let under = |hash: &[u32]| {
+            let place = map.binary_search_by_key(&hash[0], |(key, _)| *key);
+            place.map_or(0, |place| map[place].1.len())
+        };
+        hashes.chunks_exact(I::HASH).map(under).sum()
+    }
+
+    /// Medians of `turns` turns, ns a query: ours, the scan, ours without
+    /// the scan, the Rust's.
+    fn measure(&self, turns: usize, mut ask: impl FnMut() -> Vec<Asked<I>>) -> Option<[f64; 4]> {
+        let query = I::ENTRIES.query?;
+        let live_count = I::ENTRIES.live_count;
+        let config = I::Config::default();
+        let settings = I::settings(&config);
+        let mut scratch = Vec::new();
+        let mut times: [Vec<f64>; 4] = Default::default();
+        for _ in 0..turns {
+            let asked = ask();
+            let words = asked.iter().map(|asked| asked.scratch).max();
+            scratch.resize(words.expect("there are queries"), 0);
+            let mut took = [f64::INFINITY; 3];
+            timed(&mut took[0], asked.len(), || {
+                asked.iter().fold(counted(0), |_, _| {
+                    live_count(black_box(self.store.slices()))
+                })
+            });
+            let ours: Vec<Answer> = timed(&mut took[1], asked.len(), || {
+                let ask = |asked: &Asked<I>| {
+                    let scratch = &mut scratch[..asked.scratch];
+                    query(self.store.slices(), scratch, &asked.hashes, RATE, &settings)
+                };
+                asked.iter().map(ask).collect()
+            });
+            let rust: Vec<_> = timed(&mut took[2], asked.len(), || {
+                let ask = |asked: &Asked<I>| self.index.query(&asked.fingerprint, &config);
+                asked.iter().map(ask).collect()
+            });
+            assert!(
+                ours.into_iter().eq(rust.into_iter().map(found)),
+                "both sides answer the same"
+            );
+            let [scan, ours, rust] = took;
+            for (times, took) in times.iter_mut().zip([ours, scan, ours - scan, rust]) {
+                times.push(took);
+            }
+        }
+        Some(times.map(median))
+    }
+}
+
+fn query_row(name: &str, lists: &str, hashes: usize, met: f64, times: [f64; 4]) -> String {
+    let [ours, scan, rest, rust] = times;
     let micros = |ns: f64| format!("{:.*}", if ns < 1e5 { 2 } else { 0 }, ns / 1e3);
-    Some(format!(
-        "| `{name}::query` | {} | {hashes} | {:.0} | {} | {} | {} | {} | {:.2} | {:.2} |",
-        card.name,
-        met.iter().sum::<f64>() / met.len() as f64,
+    format!(
+        "| `{name}::query` | {lists} | {hashes} | {met:.0} | {} | {} | {} | {} | {:.2} | {:.2} |",
         micros(ours),
         micros(scan),
         micros(rest),
         micros(rust),
         rest / rust,
         ours / rust
+    )
+}
+
+/// A row of the table, if the library has this query: both sides in turn on
+/// the same content, each turn with other queries.
+fn measure_queries<I: Index>(name: &str, card: Card, hashes: usize) -> Option<String> {
+    let rng = &mut Rng(1);
+    let lists: Vec<Vec<u32>> = (0..card.lists).map(|_| list::<I>(rng, card)).collect();
+    let sides = Sides::<I>::of(&lists, card.sizes);
+    let mut met = Vec::new();
+    let times = sides.measure(QUERY_TURNS, || {
+        let mut ask = |_| {
+            let id = rng.below(card.lists as u64) as usize;
+            let hashes = heard::<I>(rng, card, &lists[id], hashes);
+            let postings = sides.met(&hashes);
+            met.push(postings as f64);
+            Asked::new(hashes, postings.next_power_of_two().max(512))
+        };
+        (0..card.batch).map(&mut ask).collect()
+    })?;
+    let met = met.iter().sum::<f64>() / met.len() as f64;
+    Some(query_row(name, card.name, hashes, met, times))
+}
+
+/// Hashes under one key, `apart` frames apart.
+fn under_one_key<I: Index>(hashes: usize, apart: u32) -> Vec<u32> {
+    let hash = |i| {
+        let anchor = apart * i;
+        [7, anchor, anchor + 5, anchor + 20]
+            .into_iter()
+            .take(I::HASH)
+    };
+    (0..hashes as u32).flat_map(hash).collect()
+}
+
+/// A row for one candidate all of whose votes have a bin of their own: a
+/// hundred postings under one key, each far from the next, and that key
+/// `hashes` times in the query.
+fn measure_spread<I: Index>(name: &str, hashes: usize) -> Option<String> {
+    let postings = LIMIT as usize;
+    let sides = Sides::<I>::of(&[under_one_key::<I>(postings, 1 << 12)], SCHOOL.sizes);
+    let votes = postings * hashes;
+    let times = sides.measure(SPREAD_TURNS, || {
+        vec![Asked::new(under_one_key::<I>(hashes, 1), votes)]
+    })?;
+    Some(query_row(
+        name,
+        "1 × 100, one key",
+        hashes,
+        votes as f64,
+        times,
     ))
 }

@@ -18,6 +18,7 @@ mod hough;
 mod matching;
 mod panako;
 mod queries;
+mod stack;
 mod store;
 mod tally;
 mod trial;
@@ -67,6 +68,7 @@ fn main() {
     calls::run(&mut run);
     damage::run(&mut run);
     queries::run(&mut run);
+    stack::run(&mut run);
     if run.passed == 0 {
         eprintln!("compare: no check has that name");
         std::process::exit(2);

@@ -17,7 +17,7 @@ use Rattle.model.specs.Index.{Posting, ofId}
 use Rattle.model.specs.Index as index
 use Rattle.model.specs.Words.{readPosting}
 use Rattle.model.specs.Query.{Scheme, gather}
-use Rattle.candidates.specs.Gathered.{found, Pairing, wordsOf, wordsFrom}
+use Rattle.candidates.specs.Gathered.{found, wordsBy, Pairing, wordsFrom}
 use Rattle.candidates.specs.Candidates.{Reading, ofRecording, votesOf}
 
 module _ (S : Scheme) (R : Reading (S .Vote)) (a : S .Ask) (pair : Pairing) where
@@ -88,7 +88,7 @@ module _ (S : Scheme) (R : Reading (S .Vote)) (a : S .Ask) (pair : Pairing) wher
 
     pub votes-are : (es hs : List (List ℕ)) (i : ℕ) → RightAll es i hs
         → votesOf R j (wordsFrom pair i es hs) ≡ gather S a i (map hashOf hs) (ofId j (map readPosting es))
-    unfolding wordsFrom wordsOf gather keep
+    unfolding wordsFrom wordsBy gather keep
     votes-are es [] i H = refl
     votes-are es (h ∷ hs) i H =
         votes-append (flat (map (pair i h) (found es h))) (wordsFrom pair (suc i) es hs)
@@ -105,7 +105,7 @@ module _ (S : Scheme) (R : Reading (S .Vote)) (a : S .Ask) (pair : Pairing) wher
       ∙ ap flat (map-map f readPosting (found es h))
 
   all-votes : (es hs : List (List ℕ)) (i : ℕ) → RightAll es i hs → map (R .voteIn) (wordsFrom pair i es hs) ≡ gather S a i (map hashOf hs) (map readPosting es)
-  unfolding wordsFrom wordsOf gather
+  unfolding wordsFrom wordsBy gather
   all-votes es [] i H = refl
   all-votes es (h ∷ hs) i H =
       map-append (R .voteIn) (flat (map (pair i h) (found es h))) (wordsFrom pair (suc i) es hs)
@@ -126,7 +126,7 @@ module _ (pair : Pairing) (P : ℤ → Type 0) where
 
   pub words-all : (k : ℕ) (Q E : List ℕ → Type 0) → ((i : ℕ) (h e : List ℕ) → i < k → Q h → E e → All P (pair i h e))
       → (es : List (List ℕ)) → All E es → (hs : List (List ℕ)) → All Q hs → (i : ℕ) → i + length hs ≤ k → All P (wordsFrom pair i es hs)
-  unfolding wordsFrom wordsOf
+  unfolding wordsFrom wordsBy
   words-all k Q E f es F [] G i le = tt
   words-all k Q E f es F (h ∷ hs) G i le =
       all-append P (flat (map (pair i h) (found es h))) (wordsFrom pair (suc i) es hs)

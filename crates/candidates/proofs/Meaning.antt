@@ -26,7 +26,7 @@ use Rattle.candidates.specs.Gathered.{Pairing, wordsFrom}
 use Rattle.candidates.specs.Candidates.{Reading, rowAt, votesOf, judgedBy, candidateIn, bestIn, answerIn}
 use Rattle.candidates.proofs.Lists.{some-kept}
 use Rattle.candidates.proofs.Gathering.{RightAll, votes-are, votes-many, gather-none}
-use Rattle.candidates.proofs.Sound.{live-entries}
+use Rattle.candidates.proofs.Sound.{hashes-long, live-entries}
 
 module _ (S : Scheme) (w2 : 2 ≤ S .width) (m : Words) (l : listed (S .width) m ≡ true) (s : soundWords (S .width) m ≡ true) (a : S .Ask) (hs : List ℕ) (scratch : ℕ)
     (R : Reading (S .Vote)) (judges : (r : Row) (vs : List (S .Vote)) → R .judge r vs ≡ S .judge a (hashesOf (S .width) hs) r vs) where
@@ -67,22 +67,22 @@ module _ (S : Scheme) (w2 : 2 ≤ S .width) (m : Words) (l : listed (S .width) m
   unfolding readIndex
   size-is = rows-long w (sizesOf w m) m w2 (references-long w m w2 l) (postings-long w m w2 l) (stopped-long w m w2 l) (sound-facts w m w2 l s)
 
-  module _ (pair : Pairing) (H : RightAll S R a pair es 0 (entries (S .width - 1) (length hs / (S .width - 1)) hs)) where
+  module _ (pair : Pairing) (H : RightAll S R a pair es 0 (entries (S .width - 1) (length (hashesOf (S .width) hs)) hs)) where
     abbrev zs : List ℤ
-    zs = wordsFrom pair 0 es (entries (S .width - 1) (length hs / (S .width - 1)) hs)
+    zs = wordsFrom pair 0 es (entries (S .width - 1) (length (hashesOf (S .width) hs)) hs)
 
-    hashes-are : map hashOf (entries (w - 1) (length hs / (w - 1)) hs) ≡ hashesOf w hs
+    hashes-are : map hashOf (entries (w - 1) (length (hashesOf w hs)) hs) ≡ hashesOf w hs
     unfolding hashesOf
-    hashes-are = refl
+    hashes-are = ap (λ (n : ℕ). map hashOf (entries (w - 1) n hs)) (hashes-long w hs)
 
     votes-is : (j : ℕ) → votesOf R j zs ≡ votes S asked (ofId j (map readPosting es))
     votes-is j =
-        votes-are S R a pair j es (entries (w - 1) (length hs / (w - 1)) hs) 0 H
+        votes-are S R a pair j es (entries (w - 1) (length (hashesOf w hs)) hs) 0 H
         ∙ ap (λ (h : List Hash). gather S a 0 h (ofId j (map readPosting es))) hashes-are
 
     many-is : length zs ≡ length (votes S asked (map readPosting es))
     many-is =
-        votes-many S R a pair es (entries (w - 1) (length hs / (w - 1)) hs) 0 H
+        votes-many S R a pair es (entries (w - 1) (length (hashesOf w hs)) hs) 0 H
         ∙ ap (λ (h : List Hash). length (gather S a 0 h (map readPosting es))) hashes-are
 
     candidate-is : (j : ℕ) → candidateIn R rs zs j ≡ candidate S asked (catalog (readIndex w m)) j

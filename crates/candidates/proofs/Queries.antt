@@ -47,10 +47,10 @@ module _ (S : Scheme) (w2 : 2 ≤ S .width) (m : Words) (a : S .Ask) (hs : List 
     none-before = passed (S .width) (S .voteWords) m (length s) hs (S .beyond a) (sym e ∙ z)
 
     pub found-is : (R : Reading (S .Vote)) → ((q : Row) (vs : List (S .Vote)) → R .judge q vs ≡ S .judge a (hashesOf (S .width) hs) q vs) → (pair : Pairing)
-        → RightAll S R a pair (entries (S .width) (getD (m .references) 2 0) (m .postings)) 0 (entries (S .width - 1) (length hs / (S .width - 1)) hs)
+        → RightAll S R a pair (entries (S .width) (getD (m .references) 2 0) (m .postings)) 0 (entries (S .width - 1) (length (hashesOf (S .width) hs)) hs)
         → (x : Answer) (s′ : List ℤ)
-        → x ≡ answerIn R (length s / S .voteWords) (m .references) (wordsFrom pair 0 (entries (S .width) (getD (m .references) 2 0) (m .postings)) (entries (S .width - 1) (length hs / (S .width - 1)) hs))
-        → s′ ≡ scratchAfter (answerIn R (length s / S .voteWords) (m .references) (wordsFrom pair 0 (entries (S .width) (getD (m .references) 2 0) (m .postings)) (entries (S .width - 1) (length hs / (S .width - 1)) hs))) s
+        → x ≡ answerIn R (length s / S .voteWords) (m .references) (wordsFrom pair 0 (entries (S .width) (getD (m .references) 2 0) (m .postings)) (entries (S .width - 1) (length (hashesOf (S .width) hs)) hs))
+        → s′ ≡ scratchAfter (answerIn R (length s / S .voteWords) (m .references) (wordsFrom pair 0 (entries (S .width) (getD (m .references) 2 0) (m .postings)) (entries (S .width - 1) (length (hashesOf (S .width) hs)) hs))) s
         → (x ≡ run .0) × ((m ≡ run .1) × (s′ ≡ scratchAfter (run .0) s))
     found-is R judges pair H x s′ ex es =
         let o = query-is S m asked w2 (sym e ∙ z) in

@@ -1,66 +1,72 @@
 -- The words of the first query hashes, and of the first postings under a key. Assumes nothing.
-use mathlib.Core.Path.{_≡_, refl, sym, ap, _∙_}
+use mathlib.Core.Path.{_≡_, refl, sym, ap, ap₂, _∙_}
 use mathlib.Core.List.{List, [], _∷_, _++_, map, append-assoc, append-nil, map-append}
-use Prim.Native.Nat.{ℕ, zero, suc, _+_, _*_, _-_, _≤_}
+use Prim.Native.Nat.{ℕ, zero, suc, _+_, _*_, _-_, _/_, _^_, _≤_, _<_}
 use native.Mathlib.Numerals.{add-one}
-use native.Mathlib.Nat.{zero-add}
+use native.Mathlib.Nat.{zero-add, mul-div-cancel-left}
 use native.Mathlib.Omega.{arith}
 use lib.IntN.{ℤ}
-use lib.ListN.{length, drop, length-append}
+use lib.ListN.{length, getD, drop, length-append}
 use lib.Dec.{eqb}
-use Rattle.lists.specs.Lists.{flat, All}
+use Rattle.lists.specs.Lists.{flat}
 use Rattle.lists.specs.Keys.{under}
-use Rattle.lists.specs.Entries.{entries, entryAt, keyOf, Wide}
-use Rattle.lists.proofs.Keep.{all-keep, length-flat, flat-append, flat-one}
-use Rattle.lists.proofs.Entries.{wide-entries, entries-none, entries-suc, entries-append, entries-flat, length-entries}
-use Rattle.candidates.specs.Gathered.{Pairing, wordsOf, wordsFrom}
+use Rattle.lists.specs.Entries.{entries, entryAt, keyOf}
+use Rattle.lists.proofs.Keep.{all-keep, flat-append, flat-one}
+use Rattle.lists.proofs.Entries.{entries-none, entries-suc, entries-append, entries-all, entry-word, length-entries}
+use Rattle.maps.proofs.Entries.{part-length}
+use Rattle.candidates.specs.Gathered.{wordsBy, Pairing, wordsOf, wordsFrom, Ids}
 
--- ---- the part under a key: as many words as its entries have, which are those under the key
+-- ---- the part under a key
 
-module _ (w : ℕ) (ps : List ℕ) (p : ℕ) (fits : w * p ≤ length ps) (key : ℕ) where
-  wide-part : Wide w (under keyOf key (entries w p ps))
-  wide-part = all-keep (λ e. length e ≡ w) (λ e. eqb (keyOf e) key) (entries w p ps) (wide-entries w p ps fits)
+module _ (w : ℕ) (ps : List ℕ) (p : ℕ) (key : ℕ) where
+  pub part-many : 0 < w → w * p ≤ length ps → length (flat (under keyOf key (entries w p ps))) / w ≡ length (under keyOf key (entries w p ps))
+  part-many h fits = ap (λ (n : ℕ). n / w) (part-length ps w p key fits) ∙ mul-div-cancel-left (length (under keyOf key (entries w p ps))) h
 
-  pub part-length : length (flat (under keyOf key (entries w p ps))) ≡ w * length (under keyOf key (entries w p ps))
-  part-length = length-flat w (under keyOf key (entries w p ps)) wide-part
+  pub part-ids : Ids (entries w p ps) → Ids (under keyOf key (entries w p ps))
+  part-ids h = all-keep (λ e. getD e 1 0 < 2 ^ 12) (λ e. eqb (keyOf e) key) (entries w p ps) h
 
-  pub part-entries : entries w (length (under keyOf key (entries w p ps))) (flat (under keyOf key (entries w p ps))) ≡ under keyOf key (entries w p ps)
-  part-entries = rw append-nil at (entries-flat w (under keyOf key (entries w p ps)) [] wide-part)
-
-  pub part-all : (P : List ℕ → Type 0) → All P (entries w p ps) → All P (under keyOf key (entries w p ps))
-  part-all P h = all-keep P (λ e. eqb (keyOf e) key) (entries w p ps) h
+pub id-below : (w : ℕ) → 1 < w → (part : List ℕ) (n j : ℕ) → Ids (entries w n part) → j < n → getD part (w * j + 1) 0 < 2 ^ 12
+id-below w w1 part n j h lt = rw (entry-word w j part 1 w1) at (entries-all (λ e. getD e 1 0 < 2 ^ 12) w n part h j lt)
 
 -- ---- what the first j entries of a part give
 
 module _ (f : List ℕ → List ℤ) (w : ℕ) (part : List ℕ) where
-  unfoldable pub given : ℕ → List ℤ
-  given j = flat (map f (entries w j part))
+  abbrev given : ℕ → List ℤ
+  given j = wordsBy f (entries w j part)
 
   pub given-none : given 0 ≡ []
-  unfolding given flat
+  unfolding wordsBy flat
   given-none = rw (entries-none w part)
 
-  given-add : (j d : ℕ) → given (j + d) ≡ given j ++ flat (map f (entries w d (drop (w * j) part)))
-  unfolding given
+  given-add : (j d : ℕ) → given (j + d) ≡ given j ++ wordsBy f (entries w d (drop (w * j) part))
+  unfolding wordsBy
   given-add j d = rw (entries-append w j d part, map-append f (entries w j part) (entries w d (drop (w * j) part))) (flat-append (map f (entries w j part)) (map f (entries w d (drop (w * j) part))))
 
   pub given-more : (j : ℕ) → given (j + 1) ≡ given j ++ f (entryAt w j part)
-  unfolding given
+  unfolding wordsBy
   given-more j = rw (add-one j, entries-suc w j part, map-append f (entries w j part) (entryAt w j part ∷ [])) (flat-append (map f (entries w j part)) (f (entryAt w j part) ∷ []) ∙ ap (λ (l : List ℤ). flat (map f (entries w j part)) ++ l) (flat-one (f (entryAt w j part))))
+
+  pub given-count : (j : ℕ) → length (given (j + 1)) ≡ length (given j) + length (f (entryAt w j part))
+  given-count j = ap length (given-more j) ∙ length-append (given j) (f (entryAt w j part))
 
   pub given-longer : (j n : ℕ) → j ≤ n → length (given j) ≤ length (given n)
   given-longer j n h =
       let e : j + (n - j) ≡ n = omega arith in
       let a = given-add j (n - j) in
       let b = rw e at a in
-      rw (b, length-append (given j) (flat (map f (entries w (n - j) (drop (w * j) part))))) (omega arith)
+      rw (b, length-append (given j) (wordsBy f (entries w (n - j) (drop (w * j) part)))) (omega arith)
+
+  -- written behind the words l
+  pub put-none : (l : List ℤ) → l ≡ l ++ given 0
+  put-none l = rw given-none (sym (append-nil l))
+
+  pub put-more : (l m x : List ℤ) (j : ℕ) → m ≡ l ++ given j → x ≡ m ++ f (entryAt w j part) → x ≡ l ++ given (j + 1)
+  put-more l m x j e k =
+      k ∙ ap (λ (y : List ℤ). y ++ f (entryAt w j part)) e
+      ∙ append-assoc l (given j) (f (entryAt w j part))
+      ∙ ap (λ (y : List ℤ). l ++ y) (sym (given-more j))
 
 module _ (pair : Pairing) (es : List (List ℕ)) where
-  -- all that stand under the key of query hash h
-  pub given-all : (i : ℕ) (h : List ℕ) (w n : ℕ) (part : List ℕ) → entries w n part ≡ under keyOf (keyOf h) es → given (pair i h) w part n ≡ wordsOf pair i es h
-  unfolding wordsOf given
-  given-all i h w n part e = ap (λ (l : List (List ℕ)). flat (map (pair i h) l)) e
-
   words-snoc : (q : ℕ) (hs : List (List ℕ)) (h : List ℕ) → wordsFrom pair q es (hs ++ h ∷ []) ≡ wordsFrom pair q es hs ++ wordsOf pair (q + length hs) es h
   unfolding wordsFrom
   words-snoc q [] h = let e : q + 0 ≡ q = omega arith in rw (e, append-nil)
@@ -86,12 +92,19 @@ module _ (pair : Pairing) (es : List (List ℕ)) where
     unfolding firsts
     firsts-more i = rw (add-one i, entries-suc u i hs, words-snoc 0 (entries u i hs) (entryAt u i hs), length-entries u i hs, zero-add i)
 
+    pub firsts-count : (i : ℕ) → length (firsts (i + 1)) ≡ length (firsts i) + length (wordsOf pair i es (entryAt u i hs))
+    firsts-count i = ap length (firsts-more i) ∙ length-append (firsts i) (wordsOf pair i es (entryAt u i hs))
+
     longer : (i d : ℕ) → length (firsts i) ≤ length (firsts (i + d))
     longer i zero = let e : i + 0 ≡ i = omega arith in rw e (omega arith)
     longer i (suc d) =
         let ih = longer i d in
         let e : i + suc d ≡ (i + d) + 1 = omega arith in
-        rw (e, firsts-more (i + d), length-append (firsts (i + d)) (wordsOf pair (i + d) es (entryAt u (i + d) hs))) (omega arith)
+        rw e (omega (arith, firsts-count (i + d)))
 
     pub firsts-longer : (i m : ℕ) → i ≤ m → length (firsts i) ≤ length (firsts m)
     firsts-longer i m h = let e : i + (m - i) ≡ m = omega arith in rw e at (longer i (m - i))
+
+    -- hash i's, written behind those before it
+    pub put-hash : (i : ℕ) (l a x : List ℤ) → l ≡ firsts i → wordsOf pair i es (entryAt u i hs) ≡ a → x ≡ l ++ a → x ≡ firsts (i + 1)
+    put-hash i l a x e k m = m ∙ ap₂ (λ (y z : List ℤ). y ++ z) e (sym k) ∙ sym (firsts-more i)

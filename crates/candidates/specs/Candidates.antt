@@ -1,11 +1,12 @@
 -- The candidates of a query, from the words zs of its votes and the references rs. Definitions only. Assumes nothing.
-use mathlib.Core.Bool.{Bool, cond}
+use mathlib.Core.Bool.{Bool, true, cond}
 use mathlib.Core.Path.{_≡_}
 use mathlib.Core.List.{List, [], _∷_, map}
 use mathlib.Core.Option.{Option, none, some}
-use Prim.Native.Nat.{ℕ, _≤_, _<_}
+use Prim.Native.Nat.{ℕ, _*_, _≤_, _<_}
 use lib.IntN.{ℤ, pos}
 use lib.ListN.{length, getD}
+use lib.Signed.{leZ}
 use lib.Dec.{eqb, ltb}
 use Rattle.lists.specs.Lists.{keep}
 use Rattle.maps.specs.Lists.{count}
@@ -64,8 +65,13 @@ module _ {Vote : Type 0} (R : Reading Vote) where
   abbrev pub recordingAt : List ℤ → ℕ → ℕ
   recordingAt s t = R .recordingOf (getD s t (pos 0))
 
-  -- the first v words are of recordings in the references, in ascending order
-  pub record Grouped (rs : List ℕ) (s : List ℤ) (v : ℕ) : Type 0 where
-    pub fits : v ≤ length s
-    pub known : (t : ℕ) → t < v → recordingAt s t < getD rs 0 0
-    pub rising : (i j : ℕ) → i < j → j < v → recordingAt s i ≤ recordingAt s j
+  -- recordings ascend with the words
+  abbrev pub Rising : Type 0
+  Rising = (y z : ℤ) → leZ y z ≡ true → R .recordingOf y ≤ R .recordingOf z
+
+-- the first v words are votes in ascending order, P holds of each, and there are w words of scratch a vote
+pub record Votes (P : ℤ → Type 0) (w : ℕ) (s : List ℤ) (v : ℕ) : Type 0 where
+  pub ascend : (i j : ℕ) → i < j → j < v → leZ (getD s i (pos 0)) (getD s j (pos 0)) ≡ true
+  pub each : (t : ℕ) → t < v → P (getD s t (pos 0))
+  pub few : v ≤ 1000000
+  pub room : w * v ≤ length s

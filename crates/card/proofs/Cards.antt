@@ -9,9 +9,12 @@ use Rattle.lists.specs.Lists.{flat}
 use Rattle.model.specs.Words.{Words}
 use Rattle.model.specs.Run.{run}
 use Rattle.judging.specs.Scheme.{wang}
-use Rattle.card.specs.Kinds.{Kind, kindOf}
-use Rattle.card.specs.Lines.{newline, header, endLine, faultLine, answerText}
-use Rattle.card.specs.Sheet.{fieldsOf, stepBy, stepOf, linesOf, lastLine, cardOf, sheetOn}
+use Rattle.text.specs.Bytes.{fieldsOf, newline}
+use Rattle.records.specs.Kinds.{Kind, kindOf}
+use Rattle.records.specs.Lines.{answerText}
+use Rattle.records.specs.Step.{stepBy, stepOf}
+use Rattle.card.specs.Ends.{header, endLine, faultLine}
+use Rattle.card.specs.Sheet.{linesOf, lastLine, cardOf, sheetOn}
 
 -- "The header `sheet 1` is always the first line."
 pub header-first : (m : Words) (s : List ℕ) → take 8 (sheetOn m s) ≡ header

@@ -1,5 +1,4 @@
-pub mod Decimals
-pub mod Puts
-pub mod Decoding
-pub mod Steps
+pub mod Reading
+pub mod Turns
+pub mod Printed
 pub mod Cards

@@ -32,10 +32,12 @@ use Rattle.model.specs.Run.{storeOf, runInsert, runRemove, runQuery}
 use Rattle.judging.specs.Gates.{peakGates, gates, resultAt}
 use Rattle.judging.specs.Judge.{modeWithin, peakOf, distinct, seenOf, judgeBy}
 use Rattle.judging.specs.Scheme.{beyond, judge}
-use Rattle.card.specs.Bytes.{wordsOf, decimalIn, decimal, hexDigits}
-use Rattle.card.specs.Lines.{header, offsetText, matchText}
-use Rattle.card.specs.Kinds.{goodLength}
-use Rattle.card.specs.Sheet.{stepOf, whole, recordsFrom, linesOf, sheetOn, zeroed}
+use Rattle.text.specs.Bytes.{wordsOf, decimalIn, decimal, hexDigits}
+use Rattle.records.specs.Lines.{offsetText, matchText}
+use Rattle.records.specs.Kinds.{goodLength}
+use Rattle.records.specs.Step.{stepOf}
+use Rattle.card.specs.Ends.{header}
+use Rattle.card.specs.Sheet.{whole, recordsFrom, linesOf, sheetOn, zeroed}
 
 -- ---- the bytes of cards
 

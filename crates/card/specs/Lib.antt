@@ -1,7 +1,5 @@
 -- The program sheet: what a card's bytes mean, and what is printed for them.
-pub mod Bytes
-pub mod Lines
-pub mod Kinds
+pub mod Ends
 pub mod Sheet
-pub mod Put
+pub mod Turns
 pub mod Examples

@@ -6,31 +6,11 @@ use Prim.Native.Nat.{ℕ, zero, suc, _+_, _*_}
 use lib.ListN.{length, getD, take, drop, replicate}
 use lib.Dec.{eqb, leb}
 use Rattle.lists.specs.Lists.{none?}
-use Rattle.model.specs.Calls.{Answer}
 use Rattle.model.specs.Words.{Words}
-use Rattle.model.specs.Run.{run}
-use Rattle.judging.specs.Scheme.{wang}
-use Rattle.card.specs.Bytes.{bigEndian, wordsOf}
-use Rattle.card.specs.Lines.{header, endLine, faultLine, answerLine}
-use Rattle.card.specs.Kinds.{Kind, kindOf, goodLength}
-
--- ── one record ──
-
--- "kind byte, big-endian u32 fields": the words behind the kind byte
-abbrev pub fieldsOf : List ℕ → List ℕ
-fieldsOf r = wordsOf (drop 1 r)
-
--- the line of an answer, and the store after it
-abbrev pub lineAndStore : List ℕ → Answer × Words → List ℕ × Words
-lineAndStore ws o = (answerLine (getD ws 0 0) (o .0), o .1)
-
-abbrev pub stepBy : Words → List ℕ → Option Kind → List ℕ × Words
-stepBy m ws none = ([], m)
-stepBy m ws (some k) = lineAndStore ws (run wang m (k .call ws))
-
--- the line that a record prints, and the store that it leaves
-unfoldable pub stepOf : Words → List ℕ → List ℕ × Words
-stepOf m r = stepBy m (fieldsOf r) (kindOf (getD r 0 0))
+use Rattle.text.specs.Bytes.{bigEndian}
+use Rattle.records.specs.Step.{stepOf}
+use Rattle.records.specs.Kinds.{goodLength}
+use Rattle.card.specs.Ends.{header, endLine, faultLine}
 
 -- ── the records of a card ──
 

@@ -1,26 +1,31 @@
-// The program sheet's step on one record: a record's bytes in, its line out, and the store as the record's call leaves it.
-// specs/Sheet.antt says what a whole card means.
-mod fields;
-mod lines;
-mod text;
-
+// A whole card. specs/Sheet.antt says what it means, specs/Turns.antt how the program goes through it; proofs/Turns.antt shows that the two are the
+// same. Here is all that the program decides: how much is read, the line of each turn, and whether the card goes on.
 ghost use mathlib.Core.Path.{_≡_};
-ghost use mathlib.Core.Bool.{true};
-ghost use Prim.Native.Nat.{_+_, _*_, _≤_};
-ghost use lib.ListN.{length, getD};
-ghost use Rattle.model.specs.Run.{run};
+ghost use Prim.Native.Nat.{_+_, _≤_, _<_};
+ghost use lib.ListN.{length};
 ghost use Rattle.soundness.specs.Scan.{words};
-ghost use Rattle.judging.specs.Scheme.{wang};
-ghost use Rattle.card.specs.Kinds.{zeroScratch, insertCall, removeCall, queryCall, configOf, kindOf, fitsBy, goodLength};
-ghost use Rattle.card.specs.Lines.{header, endLine, faultLine};
-ghost use Rattle.card.specs.Sheet.{lineAndStore, stepBy, stepOf, lengthAt};
-ghost use Rattle.card.specs.Put.{Put};
-use judging::WangMatchConfig;
-use wang::WangIndex;
+ghost use Rattle.text.specs.Put.{Put};
+ghost use Rattle.records.specs.Kinds.{zeroScratch};
+ghost use Rattle.card.specs.Ends.{header, endLine, faultLine};
+ghost use Rattle.card.specs.Sheet.{lengthAt, whole};
+ghost use Rattle.card.specs.Turns.{halted, advanced, turnOf, bodyLength, versionFits, limit, goesOn, startLines, started};
 
-// ---- the lines that are no record's
+// How far a card has been read: the records so far, the offset of the next length field, and whether the card goes on.
+pub struct Progress {
+    pub records: u64,
+    pub offset: u64,
+    pub more: bool,
+}
 
-pub fn put_header(line: &mut [u8], at: usize) -> usize
+// Where the lines end in the lent buffer, and how far the card has been read.
+pub struct Turned {
+    pub end: usize,
+    pub next: Progress,
+}
+
+// ---- the sheet's first line and its last
+
+fn put_header(line: &mut [u8], at: usize) -> usize
     requires { ⌜ at + 128 ≤ length (now line) ⌝ }
     ensures { λ r. ⌜ Put (now (line .entry)) (now (line .exit)) at r header ⌝ }
     ensures { λ r. ⌜ r ≤ at + 128 ⌝ }
@@ -28,7 +33,7 @@ pub fn put_header(line: &mut [u8], at: usize) -> usize
     text::put_bytes(line, at, b"sheet 1\n")
 }
 
-pub fn put_end(line: &mut [u8], at: usize, records: u64) -> usize
+fn put_end(line: &mut [u8], at: usize, records: u64) -> usize
     requires { ⌜ at + 128 ≤ length (now line) ⌝ }
     ensures { λ r. ⌜ Put (now (line .entry)) (now (line .exit)) at r (endLine records) ⌝ }
     ensures { λ r. ⌜ r ≤ at + 128 ⌝ }
@@ -38,7 +43,7 @@ pub fn put_end(line: &mut [u8], at: usize, records: u64) -> usize
     text::put_byte(line, b, 10)
 }
 
-pub fn put_fault(line: &mut [u8], at: usize, offset: u64) -> usize
+fn put_fault(line: &mut [u8], at: usize, offset: u64) -> usize
     requires { ⌜ at + 128 ≤ length (now line) ⌝ }
     ensures { λ r. ⌜ Put (now (line .entry)) (now (line .exit)) at r (faultLine offset) ⌝ }
     ensures { λ r. ⌜ r ≤ at + 128 ⌝ }
@@ -46,143 +51,121 @@ pub fn put_fault(line: &mut [u8], at: usize, offset: u64) -> usize
     text::put_short(line, at, 88, offset)
 }
 
-// ---- a record's length
+// ---- reading
 
-fn fits_by(len: usize, fixed: usize, hashes: bool) -> bool
-    ensures { λ r. ⌜ r ≡ fitsBy len fixed hashes ⌝ }
+// The length field at the beginning of some bytes.
+fn length_at(s: &[u8]) -> usize
+    requires { ⌜ 4 ≤ length (now s) ⌝ }
+    ensures { λ r. ⌜ r ≡ lengthAt (now (s .entry)) ⌝ }
+    ensures { λ r. ⌜ r < 4294967296 ⌝ }
 {
-    (1 <= len) & ((len <= 8192) & ((len % 4 == 1) & ((fixed <= len) & (hashes | (len == fixed)))))
+    text::word_at(s, 0) as usize
 }
 
-// Whether this is the length of a record of this kind.
-pub fn good_length(len: usize, kind: u8) -> bool
-    ensures { λ r. ⌜ r ≡ goodLength len kind ⌝ }
+// How many bytes are to be read behind a length field, by what was read of it.
+pub fn body_length(head: &[u8]) -> usize
+    ensures { λ r. ⌜ r ≡ bodyLength (now (head .entry)) ⌝ }
+    ensures { λ r. ⌜ r ≤ 8192 ⌝ }
 {
-    if kind == 1 {
-        return fits_by(len, 9, true);
+    if head.len() < 4 {
+        return 0;
     }
-    if kind == 2 {
-        return fits_by(len, 5, false);
+    let len = length_at(head);
+    if len > 8192 {
+        return 0;
     }
-    if kind == 3 {
-        return fits_by(len, 21, true);
+    len
+}
+
+// Whether a whole record with its length field stands at the beginning of some bytes.
+fn is_whole(s: &[u8]) -> bool
+    ensures { λ r. ⌜ r ≡ whole (now (s .entry)) ⌝ }
+{
+    if s.len() < 5 {
+        return false;
     }
-    false
+    let len = length_at(s);
+    if s.len() - 4 < len {
+        return false;
+    }
+    records::good_length(len, s[4])
 }
 
-// The length field at the beginning of four bytes.
-pub fn length_at(head: &[u8]) -> u32
-    requires { ⌜ 4 ≤ length (now head) ⌝ }
-    ensures { λ r. ⌜ r ≡ lengthAt (now (head .entry)) ⌝ }
+// Whether what was read of the version byte is 01.
+fn version_fits(version: &[u8]) -> bool
+    ensures { λ r. ⌜ r ≡ versionFits (now (version .entry)) ⌝ }
 {
-    fields::word_at(head, 0)
+    if version.len() != 1 {
+        return false;
+    }
+    version[0] == 1
 }
 
-// ---- a record
+// ---- progress
 
-// 01: limit, rate bits, hashes.
-fn insert_record(
-    fields: &[u32],
-    refs: &mut [u32],
-    postings: &mut [u32],
-    stopped: &mut [u32],
-    line: &mut [u8],
-    at: usize,
-) -> usize
-    requires { ⌜ (2 ≤ length (now fields)) × (at + 128 ≤ length (now line)) ⌝ }
-    ensures { λ r. ⌜ Put (now (line .entry)) (now (line .exit)) at r (lineAndStore (now (fields .entry)) (run wang (words (now (refs .entry)) (now (postings .entry)) (now (stopped .entry))) (insertCall (now (fields .entry)))) .0) ⌝ }
-    ensures { λ r. ⌜ r ≤ at + 128 ⌝ }
-    ensures { λ _. ⌜ words (now (refs .exit)) (now (postings .exit)) (now (stopped .exit)) ≡ run wang (words (now (refs .entry)) (now (postings .entry)) (now (stopped .entry))) (insertCall (now (fields .entry))) .1 ⌝ }
+// The same, at the last line of all.
+fn stop(p: Progress) -> Progress
+    ensures { λ r. ⌜ r ≡ halted p ⌝ }
 {
-    let limit = fields[0];
-    let rate = fields[1];
-    let answer = WangIndex::insert(refs, postings, stopped, &fields[2..], rate, limit);
-    lines::put_insertion(line, at, answer)
-}
-
-// 02: id.
-fn remove_record(
-    fields: &[u32],
-    refs: &mut [u32],
-    postings: &mut [u32],
-    stopped: &[u32],
-    line: &mut [u8],
-    at: usize,
-) -> usize
-    requires { ⌜ (1 ≤ length (now fields)) × (at + 128 ≤ length (now line)) ⌝ }
-    ensures { λ r. ⌜ Put (now (line .entry)) (now (line .exit)) at r (lineAndStore (now (fields .entry)) (run wang (words (now (refs .entry)) (now (postings .entry)) (now (stopped .entry))) (removeCall (now (fields .entry)))) .0) ⌝ }
-    ensures { λ r. ⌜ r ≤ at + 128 ⌝ }
-    ensures { λ _. ⌜ words (now (refs .exit)) (now (postings .exit)) (now (stopped .entry)) ≡ run wang (words (now (refs .entry)) (now (postings .entry)) (now (stopped .entry))) (removeCall (now (fields .entry))) .1 ⌝ }
-{
-    let id = fields[0];
-    let answer = WangIndex::remove(refs, postings, stopped, id);
-    lines::put_removal(line, at, id, answer)
-}
-
-fn config(tolerance: u32, min_votes: u32, min_score: u32, min_prominence: u32) -> WangMatchConfig
-    ensures { λ r. ⌜ r ≡ configOf tolerance «min_votes» «min_score» «min_prominence» ⌝ }
-{
-    WangMatchConfig {
-        offset_tolerance_frames: tolerance,
-        min_votes,
-        min_score: floats::f32_from_bits(min_score),
-        min_prominence: floats::f32_from_bits(min_prominence),
+    Progress {
+        records: p.records,
+        offset: p.offset,
+        more: false,
     }
 }
 
-// 03: tolerance, min_votes, min_score bits, min_prominence bits, rate bits, hashes.
-fn query_record(
-    fields: &[u32],
-    refs: &[u32],
-    postings: &[u32],
-    stopped: &[u32],
-    scratch: &mut [i64],
-    line: &mut [u8],
-    at: usize,
-) -> usize
-    requires { ⌜ (5 ≤ length (now fields)) × (at + 128 ≤ length (now line)) ⌝ }
-    requires { ⌜ now scratch ≡ zeroScratch ⌝ }
-    ensures { λ r. ⌜ Put (now (line .entry)) (now (line .exit)) at r (lineAndStore (now (fields .entry)) (run wang (words (now (refs .entry)) (now (postings .entry)) (now (stopped .entry))) (queryCall (now (fields .entry)))) .0) ⌝ }
-    ensures { λ r. ⌜ r ≤ at + 128 ⌝ }
-    ensures { λ _. ⌜ words (now (refs .entry)) (now (postings .entry)) (now (stopped .entry)) ≡ run wang (words (now (refs .entry)) (now (postings .entry)) (now (stopped .entry))) (queryCall (now (fields .entry))) .1 ⌝ }
-    ensures { λ _. ⌜ now (scratch .exit) ≡ zeroScratch ⌝ }
+// Behind a record of so many bytes.
+fn advance(p: Progress, len: usize) -> Progress
+    requires { ⌜ (p .records ≤ p .offset) × (p .offset < limit) × (len ≤ 8192) ⌝ }
+    ensures { λ r. ⌜ r ≡ advanced p len ⌝ }
 {
-    let cfg = config(fields[0], fields[1], fields[2], fields[3]);
-    let rate = floats::f32_from_bits(fields[4]);
-    let answer = WangIndex::query(refs, postings, stopped, scratch, &fields[5..], rate, cfg);
-    lines::put_finding(line, at, answer)
+    Progress {
+        records: p.records + 1,
+        offset: p.offset + 4 + len as u64,
+        more: true,
+    }
 }
 
-// A record by its kind byte and its fields.
-fn run_record(
-    kind: u8,
-    fields: &[u32],
-    refs: &mut [u32],
-    postings: &mut [u32],
-    stopped: &mut [u32],
-    scratch: &mut [i64],
-    line: &mut [u8],
-    at: usize,
-) -> usize
-    requires { ⌜ (goodLength (4 * length (now fields) + 1) kind ≡ true) × (at + 128 ≤ length (now line)) ⌝ }
-    requires { ⌜ now scratch ≡ zeroScratch ⌝ }
-    ensures { λ r. ⌜ Put (now (line .entry)) (now (line .exit)) at r (stepBy (words (now (refs .entry)) (now (postings .entry)) (now (stopped .entry))) (now (fields .entry)) (kindOf kind) .0) ⌝ }
-    ensures { λ r. ⌜ r ≤ at + 128 ⌝ }
-    ensures { λ _. ⌜ words (now (refs .exit)) (now (postings .exit)) (now (stopped .exit)) ≡ stepBy (words (now (refs .entry)) (now (postings .entry)) (now (stopped .entry))) (now (fields .entry)) (kindOf kind) .1 ⌝ }
-    ensures { λ _. ⌜ now (scratch .exit) ≡ zeroScratch ⌝ }
+// Whether there is another turn.
+pub fn goes_on(p: Progress) -> bool
+    ensures { λ r. ⌜ r ≡ goesOn p ⌝ }
 {
-    if kind == 1 {
-        return insert_record(fields, refs, postings, stopped, line, at);
-    }
-    if kind == 2 {
-        return remove_record(fields, refs, postings, stopped, line, at);
-    }
-    query_record(fields, refs, postings, stopped, scratch, line, at)
+    p.more & (p.offset < 9223372036854775808)
 }
 
-// The step on one record, whose length is good for its kind: puts its line behind the first `at` bytes of a lent buffer and answers where the
-// line ends. A line has at most 128 bytes. The scratch has room for 512 votes, and is zeros before and after.
-pub fn step(
+// ---- turns
+
+// The beginning of the sheet, by what was read of the version byte: puts the first lines into a lent buffer.
+pub fn begin(version: &[u8], line: &mut [u8]) -> Turned
+    requires { ⌜ 256 ≤ length (now line) ⌝ }
+    ensures { λ r. ⌜ Put (now (line .entry)) (now (line .exit)) 0 (r .end) (startLines (versionFits (now (version .entry)))) ⌝ }
+    ensures { λ r. ⌜ r .end ≤ 256 ⌝ }
+    ensures { λ r. ⌜ r .next ≡ started (versionFits (now (version .entry))) ⌝ }
+{
+    let end = put_header(line, 0);
+    if version_fits(version) {
+        return Turned {
+            end,
+            next: Progress {
+                records: 0,
+                offset: 1,
+                more: true,
+            },
+        };
+    }
+    Turned {
+        end: put_fault(line, end, 0),
+        next: Progress {
+            records: 0,
+            offset: 1,
+            more: false,
+        },
+    }
+}
+
+// One turn on the bytes that were read for it: a record with its length field, or what there was of one. Puts a line behind the first `at` bytes of a
+// lent buffer. A line has at most 128 bytes. The scratch has room for 512 votes, and is zeros before and after.
+pub fn turn(
     bytes: &[u8],
     refs: &mut [u32],
     postings: &mut [u32],
@@ -190,24 +173,41 @@ pub fn step(
     scratch: &mut [i64],
     line: &mut [u8],
     at: usize,
-) -> usize
-    requires { ⌜ (goodLength (length (now bytes)) (getD (now bytes) 0 0) ≡ true) × (at + 128 ≤ length (now line)) ⌝ }
+    p: Progress,
+) -> Turned
+    requires { ⌜ (at + 128 ≤ length (now line)) × (p .records ≤ p .offset) × (p .offset < limit) ⌝ }
     requires { ⌜ now scratch ≡ zeroScratch ⌝ }
-    ensures { λ r. ⌜ Put (now (line .entry)) (now (line .exit)) at r (stepOf (words (now (refs .entry)) (now (postings .entry)) (now (stopped .entry))) (now (bytes .entry)) .0) ⌝ }
-    ensures { λ r. ⌜ r ≤ at + 128 ⌝ }
-    ensures { λ _. ⌜ words (now (refs .exit)) (now (postings .exit)) (now (stopped .exit)) ≡ stepOf (words (now (refs .entry)) (now (postings .entry)) (now (stopped .entry))) (now (bytes .entry)) .1 ⌝ }
+    ensures { λ r. ⌜ Put (now (line .entry)) (now (line .exit)) at (r .end) (turnOf (words (now (refs .entry)) (now (postings .entry)) (now (stopped .entry))) p (now (bytes .entry)) .line) ⌝ }
+    ensures { λ r. ⌜ r .end ≤ at + 128 ⌝ }
+    ensures { λ _. ⌜ words (now (refs .exit)) (now (postings .exit)) (now (stopped .exit)) ≡ turnOf (words (now (refs .entry)) (now (postings .entry)) (now (stopped .entry))) p (now (bytes .entry)) .store ⌝ }
+    ensures { λ r. ⌜ r .next ≡ turnOf (words (now (refs .entry)) (now (postings .entry)) (now (stopped .entry))) p (now (bytes .entry)) .next ⌝ }
     ensures { λ _. ⌜ now (scratch .exit) ≡ zeroScratch ⌝ }
 {
-    let mut fields = [0u32; 2048];
-    let n = fields::read_fields(bytes, &mut fields);
-    run_record(
-        bytes[0],
-        &fields[..n],
+    if bytes.len() == 0 {
+        return Turned {
+            end: put_end(line, at, p.records),
+            next: stop(p),
+        };
+    }
+    if !is_whole(bytes) {
+        return Turned {
+            end: put_fault(line, at, p.offset),
+            next: stop(p),
+        };
+    }
+    let len = length_at(bytes);
+    let behind = 4 + len;
+    let end = records::step(
+        &bytes[4..behind],
         refs,
         postings,
         stopped,
         scratch,
         line,
         at,
-    )
+    );
+    Turned {
+        end,
+        next: advance(p, len),
+    }
 }

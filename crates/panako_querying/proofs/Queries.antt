@@ -1,5 +1,5 @@
 -- A Panako query on a store's words: refused before its votes are counted, or answered by them. Assumes nothing.
-use mathlib.Core.Path.{_≡_, refl, sym, ap, _∙_}
+use mathlib.Core.Path.{_≡_, refl, sym}
 use mathlib.Core.Bool.{not}
 use mathlib.Core.List.{List}
 use Prim.Native.Nat.{ℕ, _+_, _/_, _^_, _≤_, _<_}
@@ -20,16 +20,15 @@ use Rattle.panako_vote.specs.Grids.{gridOf, Limited}
 use Rattle.panako_vote.proofs.Limits.{limited}
 use Rattle.refusals.specs.Early.{earlyRefusal}
 use Rattle.refusals.proofs.Early.{Passed}
-use Rattle.candidates.specs.Candidates as of-reading
 use Rattle.candidates.proofs.Gathering.{RightAll, right-all}
 use Rattle.candidates.proofs.Sound as sound
 use Rattle.candidates.proofs.Queries as queries
 use Rattle.panako_judging.specs.declared.PanakoQuery.{PanakoQuery}
 use Rattle.panako_judging.specs.Scheme.{Ask, settings, beyond, queryOf, judge, panako}
 use Rattle.panako_judging.proofs.Votes.{within}
-use Rattle.panako_voting.specs.Gathered.{pairWords, words}
+use Rattle.panako_voting.specs.Gathered.{pairWords}
 use Rattle.panako_querying.specs.Asked.{asked}
-use Rattle.panako_querying.specs.Candidates.{reading, answerIn, Posted}
+use Rattle.panako_querying.specs.Candidates.{reading, postingsIn, hashesIn, answerIn, Posted}
 use Rattle.panako_querying.proofs.Pairs.{SmallHash, SmallPosting, small-hashes, small-postings, right}
 
 -- what every candidate is judged with, by its parts
@@ -94,14 +93,10 @@ module _ (m : Words) (a : Ask) (hs : List ℕ) (s : List ℤ) (r : ℕ) (e : r �
         → x ≡ answerIn (queryOf a (hashesOf 5 hs)) (length s / 12) (m .references) (m .postings) hs
         → s′ ≡ scratchAfter (answerIn (queryOf a (hashesOf 5 hs)) (length s / 12) (m .references) (m .postings) hs) s → (x ≡ run .0) × ((m ≡ run .1) × (s′ ≡ scratchAfter (run .0) s))
     found-is hash-bits post-bits x s′ ex es =
-        queries.found-is panako (omega arith) m a hs s r early-is z (reading (queryOf a (hashesOf 5 hs))) judge-is (pairWords (gridOf (settings a))) rights x s′
-        (ex ∙ ap answered (sound.hashes-long 5 hs)) (es ∙ ap (λ (n : ℕ). scratchAfter (answered n) s) (sound.hashes-long 5 hs))
+        queries.found-is panako (omega arith) m a hs s r early-is z (reading (queryOf a (hashesOf 5 hs))) judge-is (pairWords (gridOf (settings a))) rights x s′ ex es
       where
-        answered : ℕ → Answer
-        answered n = of-reading.answerIn (reading (queryOf a (hashesOf 5 hs))) (length s / 12) (m .references) (words (gridOf (settings a)) (entries 5 (getD (m .references) 2 0) (m .postings)) (entries 4 n hs))
-
-        rights : RightAll panako (reading (queryOf a (hashesOf 5 hs))) a (pairWords (gridOf (settings a))) (entries 5 (getD (m .references) 2 0) (m .postings)) 0 (entries 4 (length hs / 4) hs)
-        rights = right-all panako (reading (queryOf a (hashesOf 5 hs))) a (pairWords (gridOf (settings a))) (0 + length (entries 4 (length hs / 4) hs)) SmallHash SmallPosting
+        rights : RightAll panako (reading (queryOf a (hashesOf 5 hs))) a (pairWords (gridOf (settings a))) (postingsIn (m .references) (m .postings)) 0 (hashesIn (queryOf a (hashesOf 5 hs)) hs)
+        rights = right-all panako (reading (queryOf a (hashesOf 5 hs))) a (pairWords (gridOf (settings a))) (0 + length (hashesIn (queryOf a (hashesOf 5 hs)) hs)) SmallHash SmallPosting
             (λ i h g k H E. right a grid (queryOf a (hashesOf 5 hs)) i h g H E)
-            (entries 5 (getD (m .references) 2 0) (m .postings)) (small-postings (getD (m .references) 2 0) (m .postings) post-bits)
-            (entries 4 (length hs / 4) hs) (small-hashes (length hs / 4) hs hash-bits) 0 (omega arith)
+            (postingsIn (m .references) (m .postings)) (small-postings (getD (m .references) 2 0) (m .postings) post-bits)
+            (hashesIn (queryOf a (hashesOf 5 hs)) hs) (small-hashes (length (hashesOf 5 hs)) hs hash-bits) 0 (omega arith)

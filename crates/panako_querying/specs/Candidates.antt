@@ -2,18 +2,17 @@
 use mathlib.Core.List.{List}
 use mathlib.Core.Option.{Option}
 use Prim.Native.Nat.{ℕ, _+_, _*_, _≤_, _<_}
-use lib.IntN.{ℤ, pos}
+use lib.IntN.{ℤ}
 use lib.ListN.{length, getD}
 use Rattle.lists.specs.Lists.{All}
 use Rattle.lists.specs.Entries.{entries}
-use Rattle.bins.specs.Votes.{above}
 use Rattle.matching.specs.declared.MatchResult.{MatchResult}
 use Rattle.model.specs.Calls.{Answer}
 use Rattle.panako_vote.specs.Grids.{gridOf}
 use Rattle.candidates.specs.Candidates as of-reading
 use Rattle.panako_judging.specs.declared.PanakoQuery.{PanakoQuery}
 use Rattle.panako_judging.specs.Judge.{Vote, judgeBy}
-use Rattle.panako_judging.specs.Candidates.{lowest, recordingOf, voteIn}
+use Rattle.panako_judging.specs.Candidates.{recordingOf, voteIn}
 use Rattle.panako_voting.specs.Gathered.{words, Packable}
 
 -- how the word of a vote is read, and a recording judged
@@ -46,14 +45,14 @@ pub record Limits (rs : List ℕ) (q : PanakoQuery) : Type 0 where
   pub many : getD rs 0 0 ≤ 4096
   pub tolerance : q .cfg .«offset_tolerance_frames» ≤ 65535
 
--- the first v words are votes in ascending order, of recordings in the references; there are as many words for the sort, and three times as
--- many for bins
+-- a vote is of a recording in the references
+abbrev pub Known : List ℕ → ℤ → Type 0
+Known rs z = recordingOf z < getD rs 0 0
+
+-- the first v words are votes in ascending order; there are as many words for the sort, and three times as many for bins
 pub record Votes (rs : List ℕ) (s : List ℤ) (v : ℕ) (q : PanakoQuery) : Type 0 where
   pub limits : Limits rs q
-  pub ascend : (i j : ℕ) → i < j → j < v → above lowest (getD s i (pos 0)) ≤ above lowest (getD s j (pos 0))
-  pub known : (t : ℕ) → t < v → recordingOf (getD s t (pos 0)) < getD rs 0 0
-  pub few : v ≤ 1000000
-  pub room : 5 * v ≤ length s
+  pub words : of-reading.Votes (Known rs) 5 s v
 
 -- postings and query hashes whose votes can be gathered; a posting is of a recording in the references
 pub record Posted (rs ps hs : List ℕ) (q : PanakoQuery) : Type 0 where

@@ -8,8 +8,8 @@ use native.Mathlib.Omega.{arith}
 use lib.IntN.{ℤ}
 use lib.ListN.{length, getD, take, set}
 use lib.Seq.{take-suc-set}
-use Rattle.lists.specs.Entries.{entries, entryAt}
-use Rattle.lists.proofs.Entries.{entries-all, entry-word}
+use Rattle.lists.specs.Entries.{entryAt}
+use Rattle.lists.proofs.Entries.{entry-word}
 use Rattle.panako_vote.specs.Votes.{voteOn, isVote, InRange, Bounded}
 use Rattle.panako_vote.specs.declared.ScaleGrid.{ScaleGrid}
 use Rattle.panako_vote.specs.declared.Vote as of-pair
@@ -17,7 +17,7 @@ use Rattle.panako_vote.specs.declared.Vote.the-variants.{Nothing, At}
 use Rattle.panako_judging.specs.Judge.{Vote}
 use Rattle.panako_judging.specs.Scheme.{asList}
 use Rattle.panako_judging.specs.Candidates.{wordOf}
-use Rattle.panako_voting.specs.Gathered.{wordsWith, Ids}
+use Rattle.panako_voting.specs.Gathered.{wordsWith}
 
 pub one-vote : (id : ℕ) (v : of-pair.Vote) → isVote v ≡ true → 1 ≡ length (map (wordOf id) (asList v))
 one-vote id Nothing h = absurd (false≢true h)
@@ -34,9 +34,6 @@ module _ (g : ScaleGrid) (qa qc : ℕ) (part : List ℕ) (j : ℕ) where
 
   pub pair-is : wordsWith g qa qc (entryAt 5 j part) ≡ map (wordOf (getD part (5 * j + 1) 0)) (asList voteAt)
   pair-is = rw (entry-word 5 j part 1 (omega arith), entry-word 5 j part 2 (omega arith), entry-word 5 j part 4 (omega arith)) refl
-
-  pub id-below : (n : ℕ) → Ids (entries 5 n part) → j < n → getD part (5 * j + 1) 0 < 2 ^ 12
-  id-below n h lt = rw (entry-word 5 j part 1 (omega arith)) at (entries-all (λ e. getD e 1 0 < 2 ^ 12) 5 n part h j lt)
 
   -- written, where there is none
   pub put-none : (s : List ℤ) (at : ℕ) → voteAt ≡ Nothing

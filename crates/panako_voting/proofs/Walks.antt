@@ -1,51 +1,19 @@
--- The votes of the first query hashes, and of the first postings under a key. Assumes nothing.
+-- The votes of the first query hashes, and their counting. Assumes nothing.
 use mathlib.Core.Path.{_≡_, refl, sym, ap, _∙_}
-use mathlib.Core.List.{List, [], _++_, append-assoc, append-nil}
+use mathlib.Core.List.{List, [], _++_}
 use Prim.Native.Nat.{ℕ, _+_, _*_, _/_, _≤_, _<_}
 use native.Mathlib.Omega.{arith}
 use lib.IntN.{ℤ}
-use lib.ListN.{length, getD, take, length-append}
+use lib.ListN.{length, getD, length-append}
 use Rattle.lists.specs.Lists.{flat}
 use Rattle.lists.specs.Keys.{under}
 use Rattle.lists.specs.Entries.{entries, entryAt, keyOf}
 use Rattle.lists.proofs.Entries.{entry-key, entry-word}
+use Rattle.maps.proofs.Entries.{part-length, part-entries}
 use Rattle.panako_vote.specs.declared.ScaleGrid.{ScaleGrid}
 use Rattle.candidates.specs.Gathered.{wordsOf}
-use Rattle.candidates.proofs.Walks.{part-length, part-entries, given, given-none, given-more, given-longer, firsts, firsts-all, firsts-none, firsts-more, firsts-longer}
+use Rattle.candidates.proofs.Walks.{part-many, given-none, given-count, given-longer, firsts, firsts-all, firsts-none, firsts-more, firsts-longer}
 use Rattle.panako_voting.specs.Gathered.{wordsWith, pairWords, words, wordsOn}
-
--- ---- the first postings of a part
-
-module _ (g : ScaleGrid) (qa qc : ℕ) (part : List ℕ) where
-  on-given : (j : ℕ) → given (wordsWith g qa qc) 5 part j ≡ wordsOn g qa qc (entries 5 j part)
-  unfolding given wordsOn
-  on-given j = refl
-
-  pub on-none : wordsOn g qa qc (entries 5 0 part) ≡ []
-  on-none = sym (on-given 0) ∙ given-none (wordsWith g qa qc) 5 part
-
-  pub on-more : (j : ℕ) → wordsOn g qa qc (entries 5 (j + 1) part) ≡ wordsOn g qa qc (entries 5 j part) ++ wordsWith g qa qc (entryAt 5 j part)
-  on-more j = sym (on-given (j + 1)) ∙ given-more (wordsWith g qa qc) 5 part j ∙ ap (λ (l : List ℤ). l ++ wordsWith g qa qc (entryAt 5 j part)) (on-given j)
-
-  pub count-more : (j : ℕ) → length (wordsOn g qa qc (entries 5 (j + 1) part)) ≡ length (wordsOn g qa qc (entries 5 j part)) + length (wordsWith g qa qc (entryAt 5 j part))
-  count-more j = ap length (on-more j) ∙ length-append (wordsOn g qa qc (entries 5 j part)) (wordsWith g qa qc (entryAt 5 j part))
-
-  pub count-longer : (j n : ℕ) → j ≤ n → length (wordsOn g qa qc (entries 5 j part)) ≤ length (wordsOn g qa qc (entries 5 n part))
-  count-longer j n h = rw (on-given j, on-given n) at (given-longer (wordsWith g qa qc) 5 part j n h)
-
-  -- written behind the first `at` words
-  pub put-none : (s : List ℤ) (at : ℕ) → take at s ≡ take at s ++ wordsOn g qa qc (entries 5 0 part)
-  put-none s at = rw on-none (sym (append-nil (take at s)))
-
-  pub put-more : (l m x : List ℤ) (j : ℕ) → m ≡ l ++ wordsOn g qa qc (entries 5 j part) → x ≡ m ++ wordsWith g qa qc (entryAt 5 j part) → x ≡ l ++ wordsOn g qa qc (entries 5 (j + 1) part)
-  put-more l m x j e k =
-      k ∙ ap (λ (y : List ℤ). y ++ wordsWith g qa qc (entryAt 5 j part)) e
-      ∙ append-assoc l (wordsOn g qa qc (entries 5 j part)) (wordsWith g qa qc (entryAt 5 j part))
-      ∙ ap (λ (y : List ℤ). l ++ y) (sym (on-more j))
-
--- how many postings a part has
-pub part-many : (ps : List ℕ) (p : ℕ) → 5 * p ≤ length ps → (key : ℕ) → length (flat (under keyOf key (entries 5 p ps))) / 5 ≡ length (under keyOf key (entries 5 p ps))
-part-many ps p fits key = let e = part-length 5 ps p fits key in omega arith
 
 -- ---- the first query hashes
 
@@ -69,7 +37,6 @@ module _ (g : ScaleGrid) (ps : List ℕ) (p : ℕ) (hs : List ℕ) where
   before-none = firsts-none (pairWords g) es 4 hs
 
   at-is : (i : ℕ) → wordsOf (pairWords g) i es (entryAt 4 i hs) ≡ at i
-  unfolding wordsOf wordsOn
   at-is i =
       let h : List ℕ = entryAt 4 i hs in
       ap (λ (a : ℕ). wordsOn g a (getD h 3 0) (under keyOf (keyOf h) es)) (entry-word 4 i hs 1 (omega arith))
@@ -108,19 +75,19 @@ module _ (g : ScaleGrid) (ps : List ℕ) (p : ℕ) (hs : List ℕ) where
       anchor = ea;
       last = ec;
       part-is = ep;
-      many = en ∙ ap (λ (l : List ℕ). length l / 5) ep ∙ part-many ps p fit (getD hs (4 * i) 0);
-      counted = ev ∙ sym (ap (λ (l : List ℤ). length (before i) + length l) (on-none g qa qc part) ∙ omega arith);
+      many = en ∙ ap (λ (l : List ℕ). length l / 5) ep ∙ part-many 5 ps p (getD hs (4 * i) 0) (omega arith) fit;
+      counted = ev ∙ sym (ap (λ (l : List ℤ). length (before i) + length l) (given-none (wordsWith g qa qc) 5 part) ∙ omega arith);
       fits = le;
       on = omega arith;
     }
 
     module _ (v j : ℕ) (C : Counting room i qa qc part n v j) where
       pub counting-room : 5 * n ≤ length part
-      counting-room = omega (arith, C .many, part-length 5 ps p fit (getD hs (4 * i) 0), ap length (C .part-is))
+      counting-room = omega (arith, C .many, part-length ps 5 p (getD hs (4 * i) 0) fit, ap length (C .part-is))
 
       -- all of the part
       whole-part : wordsOn g qa qc (entries 5 n part) ≡ at i
-      whole-part = rw (C .anchor, C .last, C .many, C .part-is, part-entries 5 ps p fit (getD hs (4 * i) 0)) refl
+      whole-part = rw (C .anchor, C .last, C .many, C .part-is, part-entries ps 5 p (getD hs (4 * i) 0) fit) refl
 
       pub counting-all : j ≡ n → v ≡ length (before (i + 1))
       counting-all k = C .counted ∙ ap (λ (t : ℕ). length (before i) + length (wordsOn g qa qc (entries 5 t part))) k ∙ ap (λ (l : List ℤ). length (before i) + length l) whole-part ∙ sym (longer i)
@@ -132,7 +99,7 @@ module _ (g : ScaleGrid) (ps : List ℕ) (p : ℕ) (hs : List ℕ) where
           last = C .last;
           part-is = C .part-is;
           many = C .many;
-          counted = omega (arith, C .counted, count-more g qa qc part j);
+          counted = omega (arith, C .counted, given-count (wordsWith g qa qc) 5 part j);
           fits = le;
           on = omega arith;
         }
@@ -140,7 +107,7 @@ module _ (g : ScaleGrid) (ps : List ℕ) (p : ℕ) (hs : List ℕ) where
         -- no more than all query hashes have
         pub counting-over : (m : ℕ) → i < m → v + c ≤ length (before m)
         counting-over m k =
-            let a = count-more g qa qc part j in
-            let b = count-longer g qa qc part (j + 1) n (omega arith) in
+            let a = given-count (wordsWith g qa qc) 5 part j in
+            let b = given-longer (wordsWith g qa qc) 5 part (j + 1) n (omega arith) in
             let d = before-longer (i + 1) m (omega arith) in
             omega (arith, C .counted, a, b, d, longer i, ap length whole-part)

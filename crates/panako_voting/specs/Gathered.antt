@@ -1,17 +1,14 @@
 -- The votes of a Panako query as words. A query hash is an entry of four words, key, t_anchor, t_b and t_c; a posting one of five, its
 -- second word the id. Definitions only. Assumes nothing.
-use mathlib.Core.Path.{_≡_}
-use mathlib.Core.Bool.{true}
 use mathlib.Core.List.{List, map}
-use Prim.Native.Nat.{ℕ, _*_, _^_, _≤_, _<_}
+use Prim.Native.Nat.{ℕ}
 use lib.IntN.{ℤ}
 use lib.ListN.{length, getD}
-use Rattle.lists.specs.Lists.{All, flat}
-use Rattle.lists.specs.Entries.{entries, keysAscend}
+use Rattle.lists.specs.Entries.{entries}
 use Rattle.panako_vote.specs.Grids.{Limited}
 use Rattle.panako_vote.specs.Votes.{voteOn}
 use Rattle.panako_vote.specs.declared.ScaleGrid.{ScaleGrid}
-use Rattle.candidates.specs.Gathered.{Pairing, wordsFrom}
+use Rattle.candidates.specs.Gathered.{wordsBy, Pairing, wordsFrom, Ids, Walk}
 use Rattle.panako_judging.specs.Judge.{Vote}
 use Rattle.panako_judging.specs.Scheme.{asList}
 use Rattle.panako_judging.specs.Candidates.{wordOf}
@@ -34,21 +31,11 @@ abbrev pub voteCount : ScaleGrid → List (List ℕ) → List (List ℕ) → ℕ
 voteCount g es hs = length (words g es hs)
 
 -- those of one query hash with the postings es
-unfoldable pub wordsOn : ScaleGrid → ℕ → ℕ → List (List ℕ) → List ℤ
-wordsOn g qa qc es = flat (map (wordsWith g qa qc) es)
+abbrev pub wordsOn : ScaleGrid → ℕ → ℕ → List (List ℕ) → List ℤ
+wordsOn g qa qc es = wordsBy (wordsWith g qa qc) es
 
--- an id is of 12 bits
-abbrev pub Ids : List (List ℕ) → Type 0
-Ids es = All (λ e. getD e 1 0 < 2 ^ 12) es
-
--- what the counting asks of the words: p postings in the order of their keys, and m query hashes
-pub record Walk (ps : List ℕ) (p : ℕ) (hs : List ℕ) (m : ℕ) : Type 0 where
-  pub postings : 5 * p ≤ length ps
-  pub ascend : keysAscend ps 5 p ≡ true
-  pub hashes : 4 * m ≤ length hs
-
--- and the gathering: each part of a vote has its bits
+-- what the gathering asks: each part of a vote has its bits
 pub record Packable (ps : List ℕ) (p : ℕ) (hs : List ℕ) (m : ℕ) (g : ScaleGrid) : Type 0 where
-  pub walk : Walk ps p hs m
+  pub walk : Walk 5 ps p hs m
   pub ids : Ids (entries 5 p ps)
   pub grid : Limited g

@@ -7,7 +7,8 @@ ghost use lib.ListN.{length, getD, take};
 ghost use Rattle.lists.specs.Keys.{under};
 ghost use Rattle.lists.specs.Entries.{entries, entryAt, keyOf, keysAscend};
 ghost use Rattle.panako_vote.specs.Grids.{Limited};
-ghost use Rattle.panako_voting.specs.Gathered.{votesWith, wordsWith, words, voteCount, wordsOn, Ids, Walk, Packable};
+ghost use Rattle.candidates.specs.Gathered.{Ids, Walk};
+ghost use Rattle.panako_voting.specs.Gathered.{votesWith, wordsWith, words, voteCount, wordsOn, Packable};
 use panako_vote::ScaleGrid;
 use panako_vote::Vote;
 
@@ -38,7 +39,7 @@ pub fn count_votes(
     g: ScaleGrid,
     room: usize,
 ) -> usize
-    requires { ⌜ Walk (now posts) p (now hashes) m × (room ≤ 1000000) ⌝ }
+    requires { ⌜ Walk 5 (now posts) p (now hashes) m × (room ≤ 1000000) ⌝ }
     ensures { λ r. ⌜ r ≡ min (room + 1) (voteCount g (entries 5 p (now (posts .entry))) (entries 4 m (now (hashes .entry)))) ⌝ }
 {
     let mut v = 0;

@@ -3,14 +3,12 @@ ghost use mathlib.Core.Path.{_≡_};
 ghost use Prim.Native.Nat.{_*_, _/_, _≤_, _<_, _^_};
 ghost use lib.ListN.{length, getD, take};
 ghost use Rattle.model.specs.Fingerprints.{hashesOf};
-ghost use Rattle.model.specs.Query.{trackBest};
 ghost use Rattle.model.specs.Run.{runQuery};
 ghost use Rattle.soundness.specs.Scan.{words};
 ghost use Rattle.ranking.specs.Answers.{bestSoFar, findingAnswer, scratchAfter};
 ghost use Rattle.judging.specs.Scheme.{queryOf, wang};
 ghost use Rattle.querying.specs.Asked.{asked};
-ghost use Rattle.querying.specs.Candidates.{resultIn, bestIn, voteCountIn, wordsIn, answerIn, Votes, Posted};
-use judging::Verdict;
+ghost use Rattle.querying.specs.Candidates.{bestIn, wordsIn, answerIn, Votes, Posted};
 use judging::WangMatchConfig;
 use judging::WangQuery;
 use ranking::Best;
@@ -20,16 +18,6 @@ fn wide(x: u32) -> u64
     ensures { λ r. ⌜ (r ≡ x) × (r < 2 ^ 32) ⌝ }
 {
     x as u64
-}
-
-// A candidate's verdict comes next.
-fn keep(best: Best, id: u32, verdict: Verdict) -> Best
-    ensures { λ r. ⌜ bestSoFar r ≡ trackBest (bestSoFar best) id (resultIn verdict) ⌝ }
-{
-    match verdict {
-        Verdict::Barred => best,
-        Verdict::Passed(result) => ranking::track_best(best, id, result),
-    }
 }
 
 // The best candidate by the first v words, which are votes in ascending order. Bins are written from word 2 * v on.
@@ -45,7 +33,7 @@ fn best_of(s: &mut [i64], v: usize, refs: &[u32], q: WangQuery) -> Best
         let j = id as usize;
         let rate = rows::row_word(refs, j, 0);
         let r_max = rows::row_word(refs, j, 1);
-        best = keep(
+        best = candidates::keep(
             best,
             id as u32,
             judging::judge(s, i, e - i, 2 * v, q, rate, r_max),
@@ -64,8 +52,8 @@ fn best_candidate(
     hashes: &[u32],
     q: WangQuery,
 ) -> Best
-    requires { ⌜ Posted (now refs) (now posts) (now hashes) q × (p ≡ getD (now refs) 2 0) × (voteCountIn q (now refs) (now posts) (now hashes) ≤ 1000000)
-        × (4 * voteCountIn q (now refs) (now posts) (now hashes) ≤ length (now s)) ⌝ }
+    requires { ⌜ Posted (now refs) (now posts) (now hashes) q × (p ≡ getD (now refs) 2 0) × (length (wordsIn q (now refs) (now posts) (now hashes)) ≤ 1000000)
+        × (4 * length (wordsIn q (now refs) (now posts) (now hashes)) ≤ length (now s)) ⌝ }
     ensures { λ r. ⌜ bestSoFar r ≡ bestIn q (now (refs .entry)) (wordsIn q (now (refs .entry)) (now (posts .entry)) (now (hashes .entry))) ⌝ }
 {
     let v = voting::gather(s, posts, p, hashes, q.q_len, wide(q.q_max));

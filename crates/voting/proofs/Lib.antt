@@ -1,3 +1,2 @@
 -- Laws of the votes of a query.
-pub mod Part
-pub mod Votes
+pub mod Walks

@@ -1,21 +1,15 @@
--- The votes of a Wang query as words, in the order in which they are gathered (document 01: "For each query hash, the part of the
--- postings under its key is handed on"). A query hash is an entry of two words, key and anchor; a posting one of three, key, id and
--- anchor. Assumes nothing: these are definitions.
-use mathlib.Core.Path.{_≡_}
-use mathlib.Core.Bool.{true}
-use mathlib.Core.List.{List, [], _∷_, _++_, map}
-use Prim.Native.Nat.{ℕ, suc, _+_, _-_, _*_, _^_, _≤_, _<_}
+-- The votes of a Wang query as words. A query hash is an entry of two words, key and anchor; a posting one of three, key, id and anchor.
+-- Definitions only. Assumes nothing.
+use mathlib.Core.List.{List, [], _∷_, map}
+use Prim.Native.Nat.{ℕ, _+_, _-_, _*_, _^_, _≤_, _<_}
+use lib.IntN.{ℤ, pos}
 use lib.ListN.{length, getD}
-use Rattle.lists.specs.Lists.{All, sum}
-use Rattle.lists.specs.Keys.{under}
-use Rattle.lists.specs.Entries.{entries, keyOf, keysAscend}
+use Rattle.lists.specs.Lists.{sum}
+use Rattle.lists.specs.Entries.{entries}
 use Rattle.bins.specs.Votes.{packed}
+use Rattle.candidates.specs.Gathered.{found, wordsBy, Pairing, wordsFrom, Ids, Walk}
 
--- the postings under the key of query hash h
-abbrev pub found : List (List ℕ) → List ℕ → List (List ℕ)
-found es h = under keyOf (keyOf h) es
-
--- how many votes the query hashes hs have with the postings es
+-- how many votes the query hashes hs have with the postings es: one with each under their keys
 unfoldable pub voteCount : List (List ℕ) → List (List ℕ) → ℕ
 voteCount es hs = sum (map (λ h. length (found es h)) hs)
 
@@ -24,24 +18,24 @@ voteCount es hs = sum (map (λ h. length (found es h)) hs)
 abbrev pub voteWord : ℕ → ℕ → List ℕ → ℕ
 voteWord shift q e = packed (getD e 1 0) (getD e 2 0 + shift) q
 
--- all votes, the first query hash being at position q; `top` is the largest query anchor
-unfoldable pub votesFrom : ℕ → ℕ → List (List ℕ) → List (List ℕ) → List ℕ
-votesFrom top q es [] = []
-votesFrom top q es (h ∷ hs) = map (voteWord (top - getD h 1 0) q) (found es h) ++ votesFrom top (suc q) es hs
+abbrev pub wordWith : ℕ → ℕ → List ℕ → List ℤ
+wordWith shift q e = pos (voteWord shift q e) ∷ []
 
--- an id is of 12 bits
-abbrev pub Ids : List (List ℕ) → Type 0
-Ids es = All (λ e. getD e 1 0 < 2 ^ 12) es
+-- of the query hash h at position i; `top` is the largest query anchor
+abbrev pub pairWord : ℕ → Pairing
+pairWord top i h e = wordWith (top - getD h 1 0) i e
 
--- what the counting asks of the words: p postings in the order of their keys, and m query hashes
-pub record Walk (ps : List ℕ) (p : ℕ) (hs : List ℕ) (m : ℕ) : Type 0 where
-  pub postings : 3 * p ≤ length ps
-  pub ascend : keysAscend ps 3 p ≡ true
-  pub hashes : 2 * m ≤ length hs
+-- those of the query hashes hs with the postings es
+abbrev pub words : ℕ → List (List ℕ) → List (List ℕ) → List ℤ
+words top es hs = wordsFrom (pairWord top) 0 es hs
 
--- and the gathering: each part of a vote has its bits
+-- those of one query hash with the postings es
+abbrev pub wordsOn : ℕ → ℕ → List (List ℕ) → List ℤ
+wordsOn shift q es = wordsBy (wordWith shift q) es
+
+-- what the gathering asks: each part of a vote has its bits
 pub record Packable (ps : List ℕ) (p : ℕ) (hs : List ℕ) (m top : ℕ) : Type 0 where
-  pub walk : Walk ps p hs m
+  pub walk : Walk 3 ps p hs m
   pub ids : Ids (entries 3 p ps)
   pub short : m ≤ 2 ^ 11
   pub high : top < 2 ^ 32

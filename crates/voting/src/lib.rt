@@ -1,13 +1,13 @@
 // The votes of a Wang query: counted, then gathered as words into lent scratch.
 ghost use mathlib.Core.Path.{_≡_};
 ghost use mathlib.Core.Bool.{true};
-ghost use mathlib.Core.List.{map, _++_};
+ghost use mathlib.Core.List.{_++_};
 ghost use Prim.Native.Nat.{_+_, _*_, _≤_, _<_, _^_, min};
-ghost use lib.IntN.{pos};
 ghost use lib.ListN.{length, take};
 ghost use Rattle.lists.specs.Keys.{under};
 ghost use Rattle.lists.specs.Entries.{entries, keyOf, keysAscend};
-ghost use Rattle.voting.specs.Gathered.{voteCount, voteWord, votesFrom, Ids, Walk, Packable};
+ghost use Rattle.candidates.specs.Gathered.{Ids, Walk};
+ghost use Rattle.voting.specs.Gathered.{voteCount, words, wordsOn, Packable};
 
 fn wide(x: u32) -> u64
     ensures { λ r. ⌜ (r ≡ x) × (r < 2 ^ 32) ⌝ }
@@ -17,7 +17,7 @@ fn wide(x: u32) -> u64
 
 // The votes of m query hashes with p postings. They are held at one more than the room: the counting ends at the vote that passes it.
 pub fn count_votes(posts: &[u32], p: usize, hashes: &[u32], m: usize, room: usize) -> usize
-    requires { ⌜ Walk (now posts) p (now hashes) m × (room ≤ 1000000) ⌝ }
+    requires { ⌜ Walk 3 (now posts) p (now hashes) m × (room ≤ 1000000) ⌝ }
     ensures { λ r. ⌜ r ≡ min (room + 1) (voteCount (entries 3 p (now (posts .entry))) (entries 2 m (now (hashes .entry)))) ⌝ }
 {
     let mut v = 0;
@@ -41,7 +41,7 @@ pub fn count_votes(posts: &[u32], p: usize, hashes: &[u32], m: usize, room: usiz
 // The votes of the query hash at position q with n postings go to the words from `at` on.
 fn gather_part(s: &mut [i64], at: usize, part: &[u32], n: usize, shift: u64, q: u64)
     requires { ⌜ (at + n ≤ length (now s)) × (3 * n ≤ length (now part)) × Ids (entries 3 n (now part)) × (shift < 2 ^ 32) × (q < 2 ^ 11) ⌝ }
-    ensures { λ _. ⌜ take (at + n) (now (s .exit)) ≡ take at (now (s .entry)) ++ map pos (map (voteWord shift q) (entries 3 n (now (part .entry)))) ⌝ }
+    ensures { λ _. ⌜ take (at + n) (now (s .exit)) ≡ take at (now (s .entry)) ++ wordsOn shift q (entries 3 n (now (part .entry))) ⌝ }
 {
     let mut j = 0;
     while j < n {
@@ -66,7 +66,7 @@ fn gather_key(
     requires { ⌜ (3 * p ≤ length (now posts)) × (keysAscend (now posts) 3 p ≡ true) × Ids (entries 3 p (now posts))
         × (at + length (under keyOf key (entries 3 p (now posts))) ≤ length (now s)) × (shift < 2 ^ 32) × (q < 2 ^ 11) ⌝ }
     ensures { λ r. ⌜ (r ≡ at + length (under keyOf key (entries 3 p (now (posts .entry)))))
-        × (take r (now (s .exit)) ≡ take at (now (s .entry)) ++ map pos (map (voteWord shift q) (under keyOf key (entries 3 p (now (posts .entry)))))) ⌝ }
+        × (take r (now (s .exit)) ≡ take at (now (s .entry)) ++ wordsOn shift q (under keyOf key (entries 3 p (now (posts .entry))))) ⌝ }
 {
     let part = maps::postings_of(posts, 3, p, key);
     let n = part.len() / 3;
@@ -78,7 +78,7 @@ fn gather_key(
 pub fn gather(s: &mut [i64], posts: &[u32], p: usize, hashes: &[u32], m: usize, top: u64) -> usize
     requires { ⌜ Packable (now posts) p (now hashes) m top × (voteCount (entries 3 p (now posts)) (entries 2 m (now hashes)) ≤ length (now s)) ⌝ }
     ensures { λ r. ⌜ (r ≡ voteCount (entries 3 p (now (posts .entry))) (entries 2 m (now (hashes .entry))))
-        × (take r (now (s .exit)) ≡ map pos (votesFrom top 0 (entries 3 p (now (posts .entry))) (entries 2 m (now (hashes .entry))))) ⌝ }
+        × (take r (now (s .exit)) ≡ words top (entries 3 p (now (posts .entry))) (entries 2 m (now (hashes .entry)))) ⌝ }
 {
     let mut v = 0;
     let mut i = 0;

@@ -1,5 +1,5 @@
 -- `card::put_end` meets its contract. Assumes nothing.
-use Rattle.card.proofs.Puts.{join}
+use Rattle.text.proofs.Puts.{join}
 use native.Mathlib.Omega.{arith}
 use borrow.Author.Needs.{needs}
 use Rattle.card.proofs.put_end.Statement.{statement}

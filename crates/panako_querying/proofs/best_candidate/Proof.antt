@@ -2,7 +2,10 @@
 use mathlib.Core.Path.{ap, _∙_}
 use native.Mathlib.Omega.{arith}
 use Rattle.sorting.specs.Sort.{sortZ}
-use Rattle.panako_querying.proofs.Sorted.{sorted-votes, sorted-best}
+use Rattle.candidates.proofs.Sorted.{sorted-best}
+use Rattle.panako_querying.specs.Candidates.{reading, wordsIn}
+use Rattle.panako_querying.proofs.Sorted.{sorted-votes}
+use Rattle.panako_querying.proofs.Turns.{fair}
 use borrow.Author.Needs.{needs}
 use Rattle.panako_querying.proofs.best_candidate.Statement.{statement}
 use Rattle.panako_querying.proofs.best_candidate.Tie as tie
@@ -33,8 +36,7 @@ returns c =
     let n = rw (s .pre .1, s .pre .2) at (c .before .before .before .before .before .before .before .gather .ensures .0) in
     let words = rw (s .pre .1, s .pre .2) at (c .before .before .before .before .before .before .before .gather .ensures .1) in
     c .before .best-of .ensures
-    ∙ sorted-best (s .args .refs .now) (s .args .posts .now) (s .args .hashes .now) (s .args .q) (s .pre .0) (λ i. omega (arith, c .before .before .before .before .before .before .before .before .before .before .shared-slice-known2 .given i)) (λ i. omega (arith, c .before .before .before .before .before .before .before .before .before .shared-slice-known3 .given i))
-    (c .before .before .before .before .sort-words .last .0) (c .before .before .before .before .before .before .before .gather .result) n (c .before .before .before .before .sort-words .ensures .0 ∙ ap sortZ words)
+    ∙ sorted-best (wordsIn (s .args .q) (s .args .refs .now) (s .args .posts .now) (s .args .hashes .now)) (c .before .before .before .before .sort-words .last .0) (c .before .before .before .before .before .before .before .gather .result) n (c .before .before .before .before .sort-words .ensures .0 ∙ ap sortZ words) (reading (s .args .q)) (fair (s .args .q)) (s .args .refs .now)
 
 pub best-candidate-spec : {M : Type 1} → statement M
 best-candidate-spec = tie.close (tie.spec gather-requires sort-words-requires best-of-requires same-length returns)

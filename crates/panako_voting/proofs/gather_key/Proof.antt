@@ -1,9 +1,7 @@
 -- `panako_voting::gather_key` meets its contract: the entries of the part are those under the key. Assumes nothing.
-use Prim.Native.Nat.{_^_, _<_}
 use native.Mathlib.Omega.{arith}
-use lib.ListN.{getD}
-use Rattle.candidates.proofs.Walks.{part-length, part-entries, part-all}
-use Rattle.panako_voting.proofs.Walks.{part-many}
+use Rattle.maps.proofs.Entries.{part-length, part-entries}
+use Rattle.candidates.proofs.Walks.{part-many, part-ids}
 use borrow.Author.Needs.{needs}
 use Rattle.panako_voting.proofs.gather_key.Statement.{statement}
 use Rattle.panako_voting.proofs.gather_key.Tie as tie
@@ -17,8 +15,8 @@ gather-part-requires c κs =
     let ps = s .args .posts .now in
     let p = s .args .p in
     let key = s .args .key in
-    rw (c .before .postings-of .ensures, part-many ps p (s .pre .0) key, part-entries 5 ps p (s .pre .0) key)
-    (s .pre .4, omega (arith, part-length 5 ps p (s .pre .0) key), part-all 5 ps p (s .pre .0) key (λ e. getD e 1 0 < 2 ^ 12) (s .pre .2), s .pre .3)
+    rw (c .before .postings-of .ensures, part-many 5 ps p key (omega arith) (s .pre .0), part-entries ps 5 p key (s .pre .0))
+    (s .pre .4, omega (arith, part-length ps 5 p key (s .pre .0)), part-ids 5 ps p key (s .pre .2), s .pre .3)
 
 same-length : tie.Need-same-length
 same-length c = search needs
@@ -29,7 +27,7 @@ returns c =
     let ps = s .args .posts .now in
     let p = s .args .p in
     let key = s .args .key in
-    rw (c .before .before .before .postings-of .ensures, part-many ps p (s .pre .0) key, part-entries 5 ps p (s .pre .0) key) at (c .before .gather-part .ensures)
+    rw (c .before .before .before .postings-of .ensures, part-many 5 ps p key (omega arith) (s .pre .0), part-entries ps 5 p key (s .pre .0)) at (c .before .gather-part .ensures)
 
 pub gather-key-spec : {M : Type 1} → statement M
 gather-key-spec =

@@ -5,9 +5,8 @@ use Prim.Native.Nat.{_+_, _-_, _≤_}
 use native.Mathlib.Omega.{arith}
 use lib.ListN.{length, take}
 use Rattle.lists.specs.Entries.{entries}
-use Rattle.panako_voting.specs.Gathered.{wordsOn}
-use Rattle.panako_voting.proofs.Pairs.{id-below}
-use Rattle.panako_voting.proofs.Walks.{on-none, count-more, count-longer, put-none, put-more}
+use Rattle.candidates.proofs.Walks.{id-below, given-none, given-count, given-longer, put-none, put-more}
+use Rattle.panako_voting.specs.Gathered.{wordsWith, wordsOn}
 use borrow.Author.Needs.{needs}
 use Rattle.panako_voting.proofs.gather_part.Statement.{statement}
 use Rattle.panako_voting.proofs.gather_part.Tie as tie
@@ -21,14 +20,14 @@ abbrev μ-loop : tie.MeasureT-loop
 loop-holds : tie.Need-loop-holds Inv-loop μ-loop
 loop-holds c =
     let a = c .before .args in
-    (omega arith, omega (arith, ap length (on-none (a .g) (a .qa) (a .qc) (a .part .now))), put-none (a .g) (a .qa) (a .qc) (a .part .now) (a .s .now) (a .at), refl)
+    (omega arith, omega (arith, ap length (given-none (wordsWith (a .g) (a .qa) (a .qc)) 5 (a .part .now))), put-none (wordsWith (a .g) (a .qa) (a .qc)) 5 (a .part .now) (take (a .at) (a .s .now)), refl)
 
 put-pair-requires : tie.Need-put-pair-requires Inv-loop μ-loop
 put-pair-requires c κs =
     let o = c .before .before .before .before in
     let l = c .before .before .loop in
     let a = o .args in
-    (omega (arith, count-more (a .g) (a .qa) (a .qc) (a .part .now) (l .j), count-longer (a .g) (a .qa) (a .qc) (a .part .now) (l .j + 1) (a .n) (omega arith)), omega arith, id-below (a .g) (a .qa) (a .qc) (a .part .now) (l .j) (a .n) (o .pre .2) (omega arith), o .pre .3)
+    (omega (arith, given-count (wordsWith (a .g) (a .qa) (a .qc)) 5 (a .part .now) (l .j), given-longer (wordsWith (a .g) (a .qa) (a .qc)) 5 (a .part .now) (l .j + 1) (a .n) (omega arith)), omega arith, id-below 5 (omega arith) (a .part .now) (a .n) (l .j) (o .pre .2) (omega arith), o .pre .3)
 
 add-j : tie.Need-add-j Inv-loop μ-loop
 add-j c = search needs
@@ -40,7 +39,7 @@ loop-again : tie.Need-loop-again Inv-loop μ-loop
 loop-again c =
     let a = c .before .before .before .before .before .before .args in
     let l = c .before .before .before .before .loop in
-    (omega arith, omega (arith, count-more (a .g) (a .qa) (a .qc) (a .part .now) (l .j), c .before .put-pair .ensures .0), put-more (a .g) (a .qa) (a .qc) (a .part .now) (take (a .at) (a .s .now)) (take (l .v) (l .s)) _ (l .j) (l .inv .2) (c .before .put-pair .ensures .1), c .before .put-pair .kept .0 ∙ l .inv .3)
+    (omega arith, omega (arith, given-count (wordsWith (a .g) (a .qa) (a .qc)) 5 (a .part .now) (l .j), c .before .put-pair .ensures .0), put-more (wordsWith (a .g) (a .qa) (a .qc)) 5 (a .part .now) (take (a .at) (a .s .now)) (take (l .v) (l .s)) _ (l .j) (l .inv .2) (c .before .put-pair .ensures .1), c .before .put-pair .kept .0 ∙ l .inv .3)
 
 same-length : tie.Need-same-length Inv-loop μ-loop
 same-length c = c .before .loop .inv .3

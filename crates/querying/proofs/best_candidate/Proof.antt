@@ -2,8 +2,10 @@
 use mathlib.Core.Path.{ap, _∙_}
 use native.Mathlib.Omega.{arith}
 use Rattle.sorting.specs.Sort.{sortZ}
-use borrow.Author.Needs.{needs}
-use Rattle.querying.proofs.Sorted.{sorted-votes, sorted-best}
+use Rattle.candidates.proofs.Sorted.{sorted-best}
+use Rattle.querying.specs.Candidates.{reading, wordsIn}
+use Rattle.querying.proofs.Sorted.{gathered-many, sorted-votes}
+use Rattle.querying.proofs.Turns.{fair}
 use borrow.Author.Needs.{needs}
 use Rattle.querying.proofs.best_candidate.Statement.{statement}
 use Rattle.querying.proofs.best_candidate.Tie as tie
@@ -12,22 +14,24 @@ wide-requires : tie.Need-wide-requires
 wide-requires c κs = search needs
 
 gather-requires : tie.Need-gather-requires
-gather-requires c κs = let s = c .before .before .before .before .before in rw (c .wide .ensures .0, s .pre .1) (s .pre .0 .packable, omega (arith, s .pre .3))
+gather-requires c κs =
+    let s = c .before .before .before .before .before in
+    let a = s .args in
+    rw (c .wide .ensures .0, s .pre .1) (s .pre .0 .packable, omega (arith, s .pre .3, gathered-many (a .q) (a .refs .now) (a .posts .now) (a .hashes .now)))
 
 sort-words-requires : tie.Need-sort-words-requires
 sort-words-requires c κs =
     let s = c .before .before .before .before .before .before .before .before in
-    let n = rw (s .pre .1) at (c .before .before .gather .ensures .0) in
+    let n = rw (s .pre .1) at (c .before .before .gather .ensures .0) ∙ gathered-many (s .args .q) (s .args .refs .now) (s .args .posts .now) (s .args .hashes .now) in
     omega (arith, n, c .before .before .gather .kept .0, s .pre .3)
 
 best-of-requires : tie.Need-best-of-requires
 best-of-requires c κs =
     let s = c .before .before .before .before .before .before .before .before .before .before .before in
-    let n = rw (s .pre .1) at (c .before .before .before .before .before .gather .ensures .0) in
+    let n = rw (s .pre .1) at (c .before .before .before .before .before .gather .ensures .0) ∙ gathered-many (s .args .q) (s .args .refs .now) (s .args .posts .now) (s .args .hashes .now) in
     let words = rw (c .before .before .before .before .before .before .wide .ensures .0, s .pre .1) at (c .before .before .before .before .before .gather .ensures .1) in
     sorted-votes (s .args .refs .now) (s .args .posts .now) (s .args .hashes .now) (s .args .q) (s .pre .0) (λ i. omega (arith, c .before .before .before .before .before .before .before .before .before .shared-slice-known2 .given i))
-    (c .before .before .sort-words .last .0) (c .before .before .before .before .before .gather .result) n (omega (arith, n, s .pre .2)) (omega (arith, n, c .before .before .sort-words .kept .0, c .before .before .before .before .before .gather .kept .0, s .pre .3))
-    (c .before .before .sort-words .ensures .0 ∙ ap sortZ words)
+    (c .before .before .sort-words .last .0) (c .before .before .before .before .before .gather .result) n (c .before .before .sort-words .ensures .0 ∙ ap sortZ words) (omega (arith, n, s .pre .2)) (omega (arith, n, c .before .before .sort-words .kept .0, c .before .before .before .before .before .gather .kept .0, s .pre .3))
 
 same-length : tie.Need-same-length
 same-length c = search needs
@@ -35,12 +39,10 @@ same-length c = search needs
 returns : tie.Need-returns
 returns c =
     let s = c .before .before .before .before .before .before .before .before .before .before .before .before .before in
-    let n = rw (s .pre .1) at (c .before .before .before .before .before .before .before .gather .ensures .0) in
+    let n = rw (s .pre .1) at (c .before .before .before .before .before .before .before .gather .ensures .0) ∙ gathered-many (s .args .q) (s .args .refs .now) (s .args .posts .now) (s .args .hashes .now) in
     let words = rw (c .before .before .before .before .before .before .before .before .wide .ensures .0, s .pre .1) at (c .before .before .before .before .before .before .before .gather .ensures .1) in
     c .before .best-of .ensures
-    ∙ sorted-best (s .args .refs .now) (s .args .posts .now) (s .args .hashes .now) (s .args .q) (s .pre .0) (λ i. omega (arith, c .before .before .before .before .before .before .before .before .before .before .before .shared-slice-known2 .given i))
-    (c .before .before .before .before .sort-words .last .0) (c .before .before .before .before .before .before .before .gather .result) n (omega (arith, n, s .pre .2)) (omega (arith, n, c .before .before .before .before .sort-words .kept .0, c .before .before .before .before .before .before .before .gather .kept .0, s .pre .3))
-    (c .before .before .before .before .sort-words .ensures .0 ∙ ap sortZ words)
+    ∙ sorted-best (wordsIn (s .args .q) (s .args .refs .now) (s .args .posts .now) (s .args .hashes .now)) (c .before .before .before .before .sort-words .last .0) (c .before .before .before .before .before .before .before .gather .result) n (c .before .before .before .before .sort-words .ensures .0 ∙ ap sortZ words) (reading (s .args .q)) (fair (s .args .q)) (s .args .refs .now)
 
 pub best-candidate-spec : {M : Type 1} → statement M
 best-candidate-spec =

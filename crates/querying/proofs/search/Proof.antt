@@ -1,14 +1,11 @@
 -- `querying::search` meets its contract. Assumes nothing.
-use mathlib.Core.Path.{sym, ap, _∙_}
-use Prim.Native.Nat.{ℕ, _/_}
+use Prim.Native.Nat.{_/_}
 use native.Mathlib.Omega.{arith}
-use borrow.Author.Needs.{needs}
-use lib.IntN.{pos}
-use lib.ListN.{length, replicate}
-use Rattle.model.specs.Calls.{Answer, answerOf}
-use Rattle.ranking.specs.Answers.{scratchAfter}
-use Rattle.querying.specs.Candidates.{bestIn, wordsIn}
-use Rattle.querying.proofs.Answers.{too-many, all-fit, accepted, zeros-after}
+use lib.ListN.{length}
+use Rattle.ranking.specs.Answers.{bestSoFar, findingAnswer}
+use Rattle.candidates.proofs.Answers.{too-many, all-fit, answered}
+use Rattle.querying.specs.Candidates.{reading, wordsIn}
+use Rattle.querying.proofs.Sorted.{counted-all}
 use borrow.Author.Needs.{needs}
 use Rattle.querying.proofs.search.Statement.{statement}
 use Rattle.querying.proofs.search.Tie as tie
@@ -22,15 +19,14 @@ count-votes-requires c κs = let s = c .before .before .before .before in rw (c 
 returns : tie.Need-returns
 returns c =
     let s = c .before .before .before .before .before .before in
-    let n = rw (c .before .before .header .ensures .postings) at (c .before .count-votes .ensures) in
-    let e = too-many (s .args .q) (length (s .args .s .now) / 6) (s .args .refs .now) (s .args .posts .now) (s .args .hashes .now) (c .before .count-votes .result) n (c .if1 .taken) in
-    (sym e, rw e)
+    let n = counted-all (s .args .q) (s .args .refs .now) (s .args .posts .now) (s .args .hashes .now) (length (s .args .s .now) / 6) _ (rw (c .before .before .header .ensures .postings) at (c .before .count-votes .ensures)) in
+    too-many (reading (s .args .q)) (length (s .args .s .now) / 6) (s .args .refs .now) (wordsIn (s .args .q) (s .args .refs .now) (s .args .posts .now) (s .args .hashes .now)) (c .before .count-votes .result) n (s .args .s .now) (omega (arith, c .if1 .taken))
 
 best-candidate-requires : tie.Need-best-candidate-requires
 best-candidate-requires c κs =
     let s = c .before .before .before .before .before .before .before in
-    let n = rw (c .before .before .before .header .ensures .postings) at (c .before .before .count-votes .ensures) in
-    let fit = all-fit (s .args .q) (length (s .args .s .now) / 6) (s .args .refs .now) (s .args .posts .now) (s .args .hashes .now) (c .before .before .count-votes .result) n (c .before .if1 .left) in
+    let n = counted-all (s .args .q) (s .args .refs .now) (s .args .posts .now) (s .args .hashes .now) (length (s .args .s .now) / 6) _ (rw (c .before .before .before .header .ensures .postings) at (c .before .before .count-votes .ensures)) in
+    let fit = all-fit (reading (s .args .q)) (length (s .args .s .now) / 6) (s .args .refs .now) (wordsIn (s .args .q) (s .args .refs .now) (s .args .posts .now) (s .args .hashes .now)) (c .before .before .count-votes .result) n (omega (arith, c .before .if1 .left)) in
     (s .pre .0, c .before .before .before .header .ensures .postings, omega (arith, s .pre .1), omega arith)
 
 zero-words-requires : tie.Need-zero-words-requires
@@ -45,12 +41,9 @@ same-length c = search needs
 returns-2 : tie.Need-returns-2
 returns-2 c =
     let s = c .before .before .before .before .before .before .before .before .before .before .before .before .before in
-    let n = rw (c .before .before .before .before .before .before .before .before .before .header .ensures .postings) at (c .before .before .before .before .before .before .before .before .count-votes .ensures) in
-    let e = accepted (s .args .q) (length (s .args .s .now) / 6) (s .args .refs .now) (s .args .posts .now) (s .args .hashes .now) (c .before .before .before .before .before .before .before .before .count-votes .result) n (c .before .before .before .before .before .before .before .if1 .left) in
-    let o = bestIn (s .args .q) (s .args .refs .now) (wordsIn (s .args .q) (s .args .refs .now) (s .args .posts .now) (s .args .hashes .now)) in (
-      c .answer-of .ensures ∙ ap answerOf (c .before .before .before .before .before .best-candidate .ensures) ∙ sym e,
-      c .before .before .zero-words .ensures ∙ ap (λ (k : ℕ). replicate k (pos 0)) (c .before .before .before .before .before .best-candidate .kept .0) ∙ sym (zeros-after o (s .args .s .now)) ∙ ap (λ (a : Answer). scratchAfter a (s .args .s .now)) (sym e),
-    )
+    let n = counted-all (s .args .q) (s .args .refs .now) (s .args .posts .now) (s .args .hashes .now) (length (s .args .s .now) / 6) _ (rw (c .before .before .before .before .before .before .before .before .before .header .ensures .postings) at (c .before .before .before .before .before .before .before .before .count-votes .ensures)) in
+    answered (reading (s .args .q)) (length (s .args .s .now) / 6) (s .args .refs .now) (wordsIn (s .args .q) (s .args .refs .now) (s .args .posts .now) (s .args .hashes .now)) (c .before .before .before .before .before .before .before .before .count-votes .result) n (omega (arith, c .before .before .before .before .before .before .before .if1 .left))
+    (bestSoFar (c .before .before .before .before .before .best-candidate .result)) (findingAnswer (c .answer-of .result)) (s .args .s .now) (c .before .before .zero-words .last .0) _ (c .before .before .before .before .before .best-candidate .ensures) (c .answer-of .ensures) (c .before .before .before .before .before .best-candidate .kept .0) (c .before .before .zero-words .ensures)
 
 pub search-spec : {M : Type 1} → statement M
 search-spec =

@@ -8,9 +8,9 @@ use borrow.Author.Needs.{needs}
 use lib.ListN.{length, getD}
 use Rattle.lists.specs.Keys.{under}
 use Rattle.lists.specs.Entries.{entries, keyOf}
+use Rattle.candidates.proofs.Walks.{part-many}
 use Rattle.voting.specs.Gathered.{voteCount}
-use Rattle.voting.proofs.Part.{part-many}
-use Rattle.voting.proofs.Votes.{count-none, count-more, count-mono}
+use Rattle.voting.proofs.Walks.{count-none, count-more, count-longer}
 use Rattle.voting.proofs.count_votes.Statement.{statement}
 use Rattle.voting.proofs.count_votes.Tie as tie
 
@@ -48,7 +48,7 @@ loop-holds : tie.Need-loop-holds Inv-loop μ-loop Inv-hashes μ-hashes
 loop-holds c =
     let s = c .before .before .before .before .before .before in
     let key = getD (s .args .hashes .now) (2 * c .before .before .before .hashes .i) 0 in
-    (omega arith, omega arith, ap (λ (l : List ℕ). length l / 3) (c .postings-of .ensures) ∙ part-many (s .args .posts .now) (s .args .p) (s .pre .0 .postings) key, omega arith)
+    (omega arith, omega arith, ap (λ (l : List ℕ). length l / 3) (c .postings-of .ensures) ∙ part-many 3 (s .args .posts .now) (s .args .p) key (omega arith) (s .pre .0 .postings), omega arith)
 
 add-v : tie.Need-add-v Inv-loop μ-loop Inv-hashes μ-hashes
 add-v c = search needs
@@ -86,7 +86,7 @@ returns-2 c =
     let s = c .before .before .before .before .before .before .before .before .before in
     let l = c .before .before .before .before .before .before .hashes in
     let es = entries 3 (s .args .p) (s .args .posts .now) in
-    omega (arith, count-more es (s .args .hashes .now) (l .i), count-mono es (s .args .hashes .now) (l .i + 1) (s .args .m) (omega arith))
+    omega (arith, count-more es (s .args .hashes .now) (l .i), count-longer es (s .args .hashes .now) (l .i + 1) (s .args .m) (omega arith))
 
 pub count-votes-spec : {M : Type 1} → statement M
 count-votes-spec =

@@ -1,7 +1,8 @@
 -- `voting::gather_key` meets its contract: the entries of the part are those under the key. Assumes nothing.
 use mathlib.Core.Path.{refl}
 use native.Mathlib.Omega.{arith}
-use Rattle.voting.proofs.Part.{part-length, part-many, part-entries, part-ids}
+use Rattle.maps.proofs.Entries.{part-length, part-entries}
+use Rattle.candidates.proofs.Walks.{part-many, part-ids}
 use borrow.Author.Needs.{needs}
 use Rattle.voting.proofs.gather_key.Statement.{statement}
 use Rattle.voting.proofs.gather_key.Tie as tie
@@ -15,8 +16,8 @@ gather-part-requires c κs =
     let ps = s .args .posts .now in
     let p = s .args .p in
     let key = s .args .key in
-    rw (c .before .postings-of .ensures, part-many ps p (s .pre .0) key, part-entries ps p (s .pre .0) key)
-    (omega arith, omega (arith, part-length ps p (s .pre .0) key), part-ids ps p (s .pre .0) key (s .pre .2), s .pre .4, s .pre .5)
+    rw (c .before .postings-of .ensures, part-many 3 ps p key (omega arith) (s .pre .0), part-entries ps 3 p key (s .pre .0))
+    (omega arith, omega (arith, part-length ps 3 p key (s .pre .0)), part-ids 3 ps p key (s .pre .2), s .pre .4, s .pre .5)
 
 add-result : tie.Need-add-result
 add-result c = search needs
@@ -31,8 +32,8 @@ returns c =
     let p = s .args .p in
     let key = s .args .key in
     let part = c .before .before .before .postings-of .ensures in
-    let e = rw (part, part-many ps p (s .pre .0) key, part-entries ps p (s .pre .0) key) at (c .before .gather-part .ensures) in
-    rw (part, part-many ps p (s .pre .0) key) (refl, e)
+    let e = rw (part, part-many 3 ps p key (omega arith) (s .pre .0), part-entries ps 3 p key (s .pre .0)) at (c .before .gather-part .ensures) in
+    rw (part, part-many 3 ps p key (omega arith) (s .pre .0)) (refl, e)
 
 pub gather-key-spec : {M : Type 1} → statement M
 gather-key-spec =

@@ -5,18 +5,24 @@ use Prim.Native.Nat.{_+_, _-_, _≤_}
 use native.Mathlib.Omega.{arith}
 use borrow.Author.Needs.{needs}
 use lib.ListN.{length, take}
-use Rattle.voting.proofs.Part.{id-below, words, words-none, put-more}
+use Rattle.lists.specs.Entries.{entries}
+use Rattle.candidates.proofs.Walks.{id-below, put-none}
+use Rattle.voting.specs.Gathered.{wordWith, wordsOn}
+use Rattle.voting.proofs.Walks.{put-word}
 use Rattle.voting.proofs.gather_part.Statement.{statement}
 use Rattle.voting.proofs.gather_part.Tie as tie
 
 abbrev Inv-loop : tie.InvT-loop
-Inv-loop s₀ at part n shift q j₀ s j = (j ≤ n) × (take (at + j) s ≡ take at s₀ ++ words part shift q j) × (length s ≡ length s₀)
+Inv-loop s₀ at part n shift q j₀ s j = (j ≤ n) × (take (at + j) s ≡ take at s₀ ++ wordsOn shift q (entries 3 j part)) × (length s ≡ length s₀)
 
 abbrev μ-loop : tie.MeasureT-loop
 μ-loop s₀ at part n shift q j₀ s j = n - j
 
 loop-holds : tie.Need-loop-holds Inv-loop μ-loop
-loop-holds c = let a = c .before .args in (omega arith, words-none (a .part .now) (a .shift) (a .q) (a .s .now) (a .at), refl)
+loop-holds c =
+    let a = c .before .args in
+    let e : a .at + 0 ≡ a .at = omega arith in
+    (omega arith, rw e (put-none (wordWith (a .shift) (a .q)) 3 (a .part .now) (take (a .at) (a .s .now))), refl)
 
 mul-k : tie.Need-mul-k Inv-loop μ-loop
 mul-k c = search needs
@@ -54,7 +60,7 @@ add-pack c = search needs
 pack-requires : tie.Need-pack-requires Inv-loop μ-loop
 pack-requires c κs =
     let s = c .before .before .before .before .before .before .before .before in
-    let id = id-below (s .args .part .now) (s .args .n) (c .before .before .before .before .before .before .loop .j) (s .pre .2) (omega arith) in
+    let id = id-below 3 (omega arith) (s .args .part .now) (s .args .n) (c .before .before .before .before .before .before .loop .j) (s .pre .2) (omega arith) in
     (rw (c .before .before .before .wide .ensures .0) id, omega (arith, c .before .wide2 .ensures .1), s .pre .4)
 
 put-word-requires : tie.Need-put-word-requires Inv-loop μ-loop
@@ -70,7 +76,7 @@ loop-again : tie.Need-loop-again Inv-loop μ-loop
 loop-again c =
     let s = c .before .before .before .before .before .before .before .before .before .before .before in
     let l = c .before .before .before .before .before .before .before .before .before .loop in
-    let e = put-more (s .args .part .now) (s .args .shift) (s .args .q) (s .args .s .now) (l .s) (s .args .at) (l .j) (l .inv .1) (omega arith) in
+    let e = put-word (s .args .part .now) (s .args .shift) (s .args .q) (s .args .s .now) (l .s) (s .args .at) (l .j) (l .inv .1) (omega arith) in
     (omega arith, rw (c .before .put-word .ensures, c .before .before .pack .ensures .0, c .before .before .before .before .wide2 .ensures .0, c .before .before .before .before .before .before .wide .ensures .0) e, c .before .put-word .kept .0 ∙ l .inv .2)
 
 same-length : tie.Need-same-length Inv-loop μ-loop

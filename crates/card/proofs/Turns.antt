@@ -1,0 +1,84 @@
+-- Laws of the beginning and of a turn. Assumes nothing.
+use mathlib.Core.Path.{_≡_, refl, sym, ap, subst}
+use mathlib.Core.Bool.{Bool, true, false}
+use mathlib.Core.List.{List, [], _∷_}
+use Prim.Native.Nat.{ℕ, _-_, _+_, _≤_, _<_}
+use native.Mathlib.Omega.{arith}
+use lib.ListN.{length}
+use lib.Dec.{ltb}
+use borrow.Author.Tests.{ltb-true}
+use Rattle.lists.specs.Lists.{none?}
+use Rattle.lists.proofs.Tests.{test, and-left, and-right}
+use Rattle.model.specs.Words.{Words}
+use Rattle.text.specs.Put.{Put}
+use Rattle.text.proofs.Puts.{join, as-text}
+use Rattle.card.specs.declared.Progress.{Progress}
+use Rattle.card.specs.Ends.{header, endLine, faultLine}
+use Rattle.card.specs.Sheet.{lengthAt, whole}
+use Rattle.card.specs.Turns.{halted, advanced, last, taken, turnOf, versionFits, limit, goesOn, startLines, started}
+use Rattle.card.proofs.Reading.{whole-is}
+
+-- ---- the beginning
+
+module _ (v : List ℕ) {l k : List ℕ} {a : ℕ} (put : Put l k 0 a header) where
+  pub begun : versionFits v ≡ true → Put l k 0 a (startLines (versionFits v)) × (record { records = 0; offset = 1; more = true } ≡ started (versionFits v))
+  begun e = (as-text put (ap startLines (sym e)), ap started (sym e))
+
+  pub begun-wrong : {n : List ℕ} {b : ℕ} → versionFits v ≡ false → Put k n a b (faultLine 0)
+      → Put l n 0 b (startLines (versionFits v)) × (record { records = 0; offset = 1; more = false } ≡ started (versionFits v))
+  begun-wrong e q = (as-text (join put q) (ap startLines (sym e)), ap started (sym e))
+
+-- ---- a turn
+
+module _ (m : Words) (p : Progress) where
+  pub turn-end : (s : List ℕ) → length s ≡ 0 → turnOf m p s ≡ last m p (endLine (p .records))
+  unfolding turnOf
+  turn-end [] h = refl
+  turn-end (x ∷ s) h = absurd (omega arith)
+
+  pub turn-fault : (s : List ℕ) → (length s ≡ 0 → ⊥) → whole s ≡ false → turnOf m p s ≡ last m p (faultLine (p .offset))
+  unfolding turnOf
+  turn-fault [] n h = absurd (n refl)
+  turn-fault (x ∷ s) n h = rw h
+
+  pub turn-record : (s : List ℕ) → whole s ≡ true → turnOf m p s ≡ taken m p s
+  unfolding turnOf
+  turn-record [] h = let w = whole-is [] h in absurd (omega (arith, w .begins))
+  turn-record (x ∷ s) h = rw h
+
+-- ---- what a loop of turns needs
+
+abbrev flag : Bool → ℕ
+flag true = 1
+flag false = 0
+
+-- what is left until the limit; a turn makes it smaller
+abbrev pub left : Progress → ℕ
+left p = limit - p .offset + flag (p .more)
+
+pub record Next (p q : Progress) : Type 0 where
+  pub counts : q .records ≤ q .offset
+  pub less : left q < left p
+
+pub started-counts : (q : Progress) (fits : Bool) → q ≡ started fits → q .records ≤ q .offset
+started-counts q fits e = subst (λ (x : Progress). x .records ≤ x .offset) (sym e) (omega arith)
+
+pub below-limit : (p : Progress) → goesOn p ≡ true → p .offset < limit
+below-limit p g = ltb-true (p .offset) limit (and-right (p .more) (ltb (p .offset) limit) g)
+
+module _ (m : Words) (p : Progress) (s : List ℕ) (h : p .records ≤ p .offset) (g : goesOn p ≡ true) where
+  goes : flag (p .more) ≡ 1
+  goes = ap flag (and-left (p .more) (ltb (p .offset) limit) g)
+
+  next-halted : Next p (halted p)
+  next-halted = record { counts = h; less = omega (arith, goes) }
+
+  next-advanced : (n : ℕ) → Next p (advanced p n)
+  next-advanced n = record { counts = omega arith; less = omega (arith, goes, below-limit p g) }
+
+  pub next-turn : (q : Progress) → q ≡ turnOf m p s .next → Next p q
+  unfolding turnOf
+  next-turn q e =
+      test (none? s) (λ a. subst (λ (x : Progress). Next p x) (sym (rw a at e)) next-halted) (λ a.
+      test (whole s) (λ b. subst (λ (x : Progress). Next p x) (sym (rw (a, b) at e)) (next-advanced (lengthAt s)))
+      (λ b. subst (λ (x : Progress). Next p x) (sym (rw (a, b) at e)) next-halted))
