@@ -204,7 +204,7 @@ impl<'a> Source<'a> {
         write::<I>(&content, self.sizes)
     }
 
-    fn limit(&self, rng: &mut Rng) -> u32 {
+    pub fn limit(&self, rng: &mut Rng) -> u32 {
         self.limit.unwrap_or_else(|| some_limit(rng))
     }
 

@@ -168,7 +168,7 @@ fn some_start<I: Index>(rng: &mut Rng, sizes: Sizes) -> Store {
 
 /// Values that a word is set to: ends and NaNs, sizes, and all that stands in
 /// the store with its neighbours.
-fn values<I: Index>(store: &Store) -> Vec<u32> {
+pub fn values<I: Index>(store: &Store) -> Vec<u32> {
     let fixed = [
         0,
         1,
@@ -197,7 +197,7 @@ fn values<I: Index>(store: &Store) -> Vec<u32> {
     values
 }
 
-fn set(store: &mut Store, mut place: usize, value: u32) {
+pub fn set(store: &mut Store, mut place: usize, value: u32) {
     for slice in store.lend() {
         match slice.get_mut(place) {
             Some(word) => {

@@ -4,6 +4,8 @@
 //! and an end with status 1 at the first difference. `--scale` multiplies the
 //! random inputs; `--only` runs the checks whose name contains NAME.
 //! `compare --bench [--only NAME]` measures both sides instead.
+//! `compare --write-replay FILE` writes the list that the program `replay` runs
+//! on, `crates/replay/stdin`.
 
 mod account;
 mod bench;
@@ -18,6 +20,8 @@ mod hough;
 mod matching;
 mod panako;
 mod queries;
+mod replay;
+mod sheet;
 mod stack;
 mod store;
 mod tally;
@@ -26,7 +30,9 @@ mod trial;
 use harness::Run;
 
 fn usage() -> ! {
-    eprintln!("usage: compare [--seed S] [--scale N] [--only NAME] [--bench]");
+    eprintln!(
+        "usage: compare [--seed S] [--scale N] [--only NAME] [--bench] [--write-replay FILE]"
+    );
     std::process::exit(2);
 }
 
@@ -51,6 +57,10 @@ fn main() {
             "--scale" => run.scale = number(),
             "--only" => run.only = Some(words.next().unwrap_or_else(|| usage())),
             "--bench" => measure = true,
+            "--write-replay" => {
+                replay::write(&words.next().unwrap_or_else(|| usage()));
+                return;
+            }
             _ => usage(),
         }
     }
@@ -68,6 +78,8 @@ fn main() {
     calls::run(&mut run);
     damage::run(&mut run);
     queries::run(&mut run);
+    sheet::run(&mut run);
+    replay::run(&mut run);
     stack::run(&mut run);
     if run.passed == 0 {
         eprintln!("compare: no check has that name");

@@ -1,7 +1,7 @@
 //! Queries among the other calls: random histories on small stores, and
 //! families that come to each end.
 
-use crate::account::{Call, QUERY_HASHES, Query, VOTES, built, refused, removed, stored};
+use crate::account::{Account, Call, QUERY_HASHES, Query, VOTES, built, refused, removed, stored};
 use crate::calls::{RATE, Source, some_rate};
 use crate::capi::{Answer, Settings};
 use crate::harness::{Check, Rng, Run, answer, word32};
@@ -45,7 +45,7 @@ pub fn run(run: &mut Run) {
 }
 
 /// What the queries of one index are made of.
-trait Asked: Index {
+pub trait Asked: Index {
     /// The times of hashes that meet often, and of such as lie far apart.
     const FEW: [&'static [u32]; 4];
     const FAR: [&'static [u32]; 4];
@@ -140,7 +140,7 @@ fn insert(hashes: Vec<u32>) -> Call {
 // ---- histories
 
 /// Times that are few, so that offsets meet; some far apart.
-fn some_times(rng: &mut Rng) -> Vec<u32> {
+pub fn some_times(rng: &mut Rng) -> Vec<u32> {
     let first = match rng.below(8) {
         0 => rng.sized(32) as u32,
         1 => u32::MAX - 7,
@@ -157,7 +157,7 @@ fn some_times(rng: &mut Rng) -> Vec<u32> {
 }
 
 /// Rates that are one, or close to it, or of every kind.
-fn some_rates(rng: &mut Rng) -> Vec<u32> {
+pub fn some_rates(rng: &mut Rng) -> Vec<u32> {
     let rate = match rng.below(8) {
         0 => rng.pick(&[1, 0x0080_0000, 0x7F7F_FFFF, 1000_f32.to_bits()]),
         1 => rng.next() as u32 >> 1,
@@ -251,10 +251,10 @@ fn some_asked<I: Index>(rng: &mut Rng, source: &Source<'_>, heard: &[Vec<u32>]) 
 }
 
 /// A query, and the reference's answer to it with open gates.
-fn some_query<I: Asked>(
+pub fn some_query<I: Asked>(
     rng: &mut Rng,
     source: &Source<'_>,
-    trial: &Trial<I>,
+    account: &Account<I>,
     heard: &[Vec<u32>],
 ) -> (Query, Option<(usize, MatchResult)>) {
     let mut query = query(some_asked::<I>(rng, source, heard), some_tolerance(rng));
@@ -264,11 +264,11 @@ fn some_query<I: Asked>(
     query.rate = source.rate(rng);
     query.fill = rng.next();
     I::vary(rng, &mut query.settings);
-    let is_asked = trial.is_sound() && !I::is_beyond(&query.settings);
-    let open = is_asked.then(|| trial.account().best(&query, &query.settings));
+    let is_asked = account.is_sound() && !I::is_beyond(&query.settings);
+    let open = is_asked.then(|| account.best(&query, &query.settings));
     let open = open.flatten();
     some_gates(rng, &mut query.settings, open);
-    let votes = trial.account().voters(&query).count();
+    let votes = account.voters(&query).count();
     let room = match rng.below(8) {
         0..3 => votes,
         3 => votes.saturating_sub(1),
@@ -281,6 +281,41 @@ fn some_query<I: Asked>(
     };
     query.scratch = I::VOTE * room + odd;
     (query, open)
+}
+
+/// A call that is no query, in this turn of a list. What is stored by it is
+/// then among those heard.
+pub fn some_other<I: Index>(
+    rng: &mut Rng,
+    source: &Source<'_>,
+    account: &Account<I>,
+    heard: &mut Vec<Vec<u32>>,
+    turn: u64,
+) -> Call {
+    let p = account.store.header()[2] as usize;
+    let mut call = match rng.below(4) {
+        // Only a build is of use there.
+        0 | 1 if !account.is_sound() => source.build::<I>(rng),
+        0 if turn < 3 => source.build::<I>(rng),
+        _ if turn < 3 => source.insert::<I>(rng, p),
+        _ => source.call::<I>(rng, &account.store),
+    };
+    hear(rng, heard, &mut call);
+    call
+}
+
+/// Puts what a call stores among the recordings heard. An insertion may turn
+/// into that of a recording that stands there already, or stood.
+pub fn hear(rng: &mut Rng, heard: &mut Vec<Vec<u32>>, call: &mut Call) {
+    if let Call::Insert { hashes, .. } = call
+        && !heard.is_empty()
+        && rng.below(4) == 0
+    {
+        *hashes = heard[rng.below(heard.len() as u64) as usize].clone();
+    }
+    if let Call::Insert { hashes, .. } | Call::Build { hashes, .. } = call {
+        heard.push(hashes.clone());
+    }
 }
 
 /// A list of calls, most of them queries.
@@ -297,29 +332,12 @@ fn history<I: Asked>(
     for turn in 0..calls {
         let rng = &mut check.rng;
         if turn >= 3 && rng.below(4) > 0 {
-            let (query, open) = some_query(rng, source, &trial, &heard);
+            let (query, open) = some_query(rng, source, trial.account(), &heard);
             let given = trial.call(check, &mut tally.met, Call::Query(query.clone()));
             tally.add(&trial, &query, open, &given);
             continue;
         }
-        let p = trial.store().header()[2] as usize;
-        let mut call = match rng.below(4) {
-            // Only a build is of use there.
-            0 | 1 if !trial.is_sound() => source.build::<I>(rng),
-            0 if turn < 3 => source.build::<I>(rng),
-            _ if turn < 3 => source.insert::<I>(rng, p),
-            _ => source.call::<I>(rng, trial.store()),
-        };
-        if let Call::Insert { hashes, .. } = &mut call {
-            // A recording that stands there already, or stood.
-            if !heard.is_empty() && rng.below(4) == 0 {
-                *hashes = heard[rng.below(heard.len() as u64) as usize].clone();
-            }
-            heard.push(hashes.clone());
-        }
-        if let Call::Build { hashes, .. } = &call {
-            heard.push(hashes.clone());
-        }
+        let call = some_other(rng, source, trial.account(), &mut heard, turn);
         trial.call(check, others, call);
     }
 }

@@ -107,7 +107,7 @@ pub struct Met {
 }
 
 impl Met {
-    fn add(&mut self, answer: &Answer) {
+    pub fn add(&mut self, answer: &Answer) {
         let [case, value, ..] = answer.map(|word| word as usize);
         self.cases[case] += 1;
         if is_refused(answer) {

@@ -1,6 +1,10 @@
 -- Laws that belong to no one function.
 pub mod Above
 pub mod Votes
-pub mod Binning
-pub mod Marking
+pub mod Stored
+pub mod Codes
 pub mod Sparse
+pub mod Occupied
+pub mod Binning
+pub mod Binned
+pub mod Marking

@@ -1,11 +1,13 @@
 -- Folds over all places and over the occupied ones only. Assumes nothing.
 use mathlib.Core.Path.{_≡_, refl, sym, ap, ap₂, _∙_}
+use mathlib.Core.Bool.{Bool, true, false}
 use Prim.Native.Nat.{ℕ, zero, suc, _+_, _<_, max}
 use native.Mathlib.Nat.{not-suc-le-zero}
 use native.Mathlib.Omega.{arith}
 use native.Mathlib.Decide.{decLt}
 use lib.IntN.{ℤ, pos, _+ℤ_, +ℤ-idr}
-use Rattle.maps.specs.Sums.{sumTo, sumToℤ, greatest}
+use Rattle.maps.specs.Sums.{sumTo, sumToℤ, greatest, when}
+use Rattle.maps.proofs.Sums.{sum-next, sum-none, sum-zeros}
 
 unfoldable folds : {A : Type 0} → (A → A → A) → A → (ℕ → A) → ℕ → A
 folds op u f zero = u
@@ -80,6 +82,15 @@ max-zero a = omega arith
 
 plusℤ-zero : (a : ℤ) → a +ℤ pos 0 ≡ a
 plusℤ-zero a = +ℤ-idr a
+
+-- a sum with one term, and with none
+pub one-of : (f : ℕ → ℕ) (n j : ℕ) → j < n → ((i : ℕ) → i < n → (i ≡ j → ⊥) → f i ≡ 0) → sumTo f n ≡ f j
+one-of f n j h out =
+    omega (arith, sum-none f j (λ i k. out i (omega arith) (λ e. omega arith)), sum-next f j, sum-zeros f (j + 1) n (omega arith) (λ i k l. out i l (λ e. omega arith)))
+
+pub when-none : (b : Bool) → when b 0 ≡ 0
+when-none true = refl
+when-none false = refl
 
 -- b names n places below w in ascending order
 pub record Sparse (b : ℕ → ℕ) (w n : ℕ) : Type 0 where

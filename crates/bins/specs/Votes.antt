@@ -1,13 +1,19 @@
 -- A Wang vote as one word (document 01: "Wang vote: id, δ = t_anchor of the posting − t_anchor of the query hash, position of the query hash"). In place of δ stands δ + the largest query anchor, which counts from the low end of the span: the vote's place. Assumes nothing: these are definitions.
 use mathlib.Core.Path.{_≡_}
+use mathlib.Core.Bool.{false}
 use mathlib.Core.List.{List}
 use Prim.Native.Nat.{ℕ, suc, _+_, _-_, _*_, _/_, _%_, _^_, _≤_, _<_}
 use lib.IntN.{ℤ, pos, negsuc}
-use lib.ListN.{length, getD}
+use lib.ListN.{getD}
+use Rattle.bins.specs.declared.Form.{Form}
 
 -- 12 bits of id, 33 of place, 11 of position
 abbrev pub packed : ℕ → ℕ → ℕ → ℕ
 packed id place position = id * 2 ^ 44 + place * 2 ^ 11 + position
+
+-- such a word's form: its code is the place
+abbrev pub wangForm : Form
+wangForm = record { low = 0; bits = 11; size = 33; scaled = false }
 
 -- how far a word lies above −low, 0 where it lies below
 abbrev pub above : ℕ → ℤ → ℕ
@@ -40,10 +46,3 @@ pub record Run (d : ℕ → ℕ) (i e r : ℕ) : Type 0 where
   pub within : r ≤ e
   pub same : (t : ℕ) → i ≤ t → t < r → d t ≡ d i
   pub stop : (r < e → d r ≡ d i → ⊥)
-
--- the g votes from word a on are of one recording and ascend; from word `at` on there is room for their bins
-pub record Group (s : List ℤ) (a g at : ℕ) : Type 0 where
-  pub one : (t : ℕ) → t < g → recordingOf (getD s (a + t) (pos 0)) ≡ recordingOf (getD s a (pos 0))
-  pub ascend : (i j : ℕ) → i < j → j < g → above 0 (getD s (a + i) (pos 0)) ≤ above 0 (getD s (a + j) (pos 0))
-  pub before : a + g ≤ at
-  pub room : at + 2 * g ≤ length s

@@ -1,13 +1,21 @@
 // Votes as words, sorted: where a run ends, run-length bins, distinct query positions.
 ghost use mathlib.Core.Path.{_≡_};
-ghost use Prim.Native.Nat.{ℕ, _+_, _*_, _≤_, _<_, _^_, max};
-ghost use lib.IntN.{pos, negℤ, _+ℤ_};
-ghost use lib.ListN.{length, getD, set, drop};
+ghost use Prim.Native.Nat.{ℕ, _+_, _%_, _≤_, _<_, _^_, max};
+ghost use lib.IntN.{pos};
+ghost use lib.ListN.{length, getD};
 ghost use Rattle.maps.specs.Sums.{sumTo, when};
-ghost use Rattle.maps.specs.Words.{SameOutside};
-ghost use Rattle.bins.specs.Votes.{packed, above, leadOf, places, positions, Run, Group};
-ghost use Rattle.bins.specs.Binned.{Binned};
+ghost use Rattle.bins.specs.Votes.{packed, above, leadOf, places, positions, Run};
+ghost use Rattle.bins.specs.Codes.{codeIn, codesIn, Fits, width, Group, occupied, offsetWords, binWords, binsOf, stored};
 ghost use Rattle.bins.specs.Distinct.{nearPlace, marked, distinctNear};
+
+// How a candidate's votes stand in words: a word counts from -low; without its last `bits` bits it is a code of `size` bits
+// and the recording's id above it. Where `scaled`, a code is a scale bin above 40 bits of place, else a place.
+pub struct Form {
+    pub low: u64,
+    pub bits: u32,
+    pub size: u32,
+    pub scaled: bool,
+}
 
 // A vote as a number: 12 bits of id, 33 of place, 11 of position.
 pub fn pack(id: u64, place: u64, position: u64) -> u64
@@ -80,29 +88,62 @@ fn position_at(s: &[i64], a: usize, t: usize) -> usize
     (word_above(s, a + t, 0) % 2048) as usize
 }
 
-// A bin: the offset x above the low end, -top, and its count.
-fn put_bin(s: &mut [i64], j: usize, x: u64, count: u64, top: u64)
-    requires { ⌜ (j + 1 < length (now s)) × (x < 2 ^ 33) × (count < 2 ^ 63) × (top < 2 ^ 32) ⌝ }
-    ensures { λ _. ⌜ now (s .exit) ≡ set (set (now (s .entry)) j (negℤ (pos top) +ℤ pos x)) (j + 1) (pos count) ⌝ }
+// The last `size` bits of x.
+fn last_bits(x: u64, size: u32) -> u64
+    requires { ⌜ size ≤ 52 ⌝ }
+    ensures { λ r. ⌜ (r ≡ x % 2 ^ size) × (r < 2 ^ 52) ⌝ }
+{
+    let unit: u64 = 1 << size;
+    x & (unit - 1)
+}
+
+// The code of the vote in word i.
+fn code_at(s: &[i64], i: usize, f: Form) -> u64
+    requires { ⌜ (i < length (now s)) × Fits f ⌝ }
+    ensures { λ r. ⌜ (r ≡ codeIn f (getD (now (s .entry)) i (pos 0))) × (r < 2 ^ 52) ⌝ }
+{
+    last_bits(lead_at(s, i, f.low, f.bits), f.size)
+}
+
+// An offset, x above -middle, and its count.
+fn put_offset(s: &mut [i64], j: usize, x: u64, count: u64, middle: u64)
+    requires { ⌜ (j + 1 < length (now s)) × (x < 2 ^ 52) × (count < 2 ^ 63) × (middle < 2 ^ 40) ⌝ }
+    ensures { λ _. ⌜ now (s .exit) ≡ stored (now (s .entry)) j (offsetWords middle x count) ⌝ }
 {
     let y = x as i64;
-    let t = top as i64;
+    let t = middle as i64;
     s[j] = y - t;
     maps::put_word(s, j + 1, count);
 }
 
-// The bins of the g votes from word a on, written from word `at` on: an offset, δ, and how many votes have it. `top` is
-// the largest query anchor. Yields how many bins there are.
-pub fn count_sorted(s: &mut [i64], a: usize, g: usize, at: usize, top: u64) -> usize
-    requires { ⌜ Group (now s) a g at × (top < 2 ^ 32) ⌝ }
-    ensures { λ n. ⌜ Binned (places (now (s .entry)) a) g (negℤ (pos top)) (drop at (now (s .exit))) n × SameOutside (now (s .entry)) (now (s .exit)) at (at + 2 * n) ⌝ }
+// The bin of a code, from word j on. Yields where the next one begins.
+fn put_bin(s: &mut [i64], j: usize, code: u64, count: u64, f: Form, middle: u64) -> usize
+    requires { ⌜ (j + width f ≤ length (now s)) × (code < 2 ^ 52) × (count < 2 ^ 63) × (middle < 2 ^ 40) ⌝ }
+    ensures { λ r. ⌜ (r ≡ j + width f) × (now (s .exit) ≡ stored (now (s .entry)) j (binWords f middle code count)) ⌝ }
+{
+    if f.scaled {
+        maps::put_word(s, j, code >> 40);
+        put_offset(s, j + 1, code % 0x100_0000_0000, count, middle);
+        return j + 3;
+    }
+    put_offset(s, j, code, count, middle);
+    j + 2
+}
+
+// The bins of the g votes from word a on, written from word `at` on; offsets count from -middle. Yields how many bins
+// there are.
+pub fn count_sorted(s: &mut [i64], a: usize, g: usize, at: usize, f: Form, middle: u64) -> usize
+    requires { ⌜ Group f (now s) a g at × Fits f × (middle < 2 ^ 40) ⌝ }
+    ensures { λ n. ⌜ (n ≡ length (occupied (codesIn f (now (s .entry)) a g)))
+        × (now (s .exit) ≡ stored (now (s .entry)) at (binsOf f middle (codesIn f (now (s .entry)) a g))) ⌝ }
 {
     let mut i = 0;
     let mut n = 0;
+    let mut j = at;
     while i < g {
-        let x = place_at(s, a, i);
-        let r = run_end(s, a + i, a + g, 0, 11) - a;
-        put_bin(s, at + 2 * n, x, (r - i) as u64, top);
+        let x = code_at(s, a + i, f);
+        let r = run_end(s, a + i, a + g, f.low, f.bits) - a;
+        j = put_bin(s, j, x, (r - i) as u64, f, middle);
         i = r;
         n += 1;
     }

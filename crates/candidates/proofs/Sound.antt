@@ -3,7 +3,7 @@ use mathlib.Core.Path.{_≡_}
 use mathlib.Core.Bool.{true, false}
 use mathlib.Core.List.{List}
 use Prim.Native.Nat.{ℕ, _+_, _*_, _-_, _/_, _≤_, _<_}
-use native.Mathlib.Nat.{mul-le-mul-left}
+use native.Mathlib.Nat.{mul-le-mul-left, mul-div-le}
 use native.Mathlib.Omega.{arith}
 use lib.ListN.{length, getD}
 use lib.Dec.{leb, ltb}
@@ -12,6 +12,7 @@ use Rattle.lists.specs.Lists.{All}
 use Rattle.lists.specs.Entries.{entries}
 use Rattle.lists.proofs.Tests.{and-left, and-right, or-false-right}
 use Rattle.lists.proofs.Entries.{length-read, all-entries, entry-word}
+use Rattle.seeking.specs.Starts.{Sought}
 use Rattle.model.specs.Fingerprints.{hashOf, hashesOf, queryMost, uneven, malformed}
 use Rattle.model.specs.Words.{Words, sizesOf, sizesListed, between, listed}
 use Rattle.model.specs.Soundness.{rowWord, soundWords}
@@ -56,8 +57,27 @@ module _ (w : ℕ) (w2 : 2 ≤ w) (m : Words) (l : listed w m ≡ true) (s : sou
       let b = and-left (between 1 4096 (sizesOf w m .R)) _ t in
       omega (arith, leb-true (sizesOf w m .R) 4096 (and-right (leb 1 (sizesOf w m .R)) (leb (sizesOf w m .R) 4096) b), F .rows-fit)
 
+  postings-few : p ≤ 1048576
+  unfolding sizesListed
+  postings-few =
+      let t = sizes-listed w m w2 l in
+      let b = and-left (between 1 1048576 (sizesOf w m .P)) _ (and-right (between 1 4096 (sizesOf w m .R)) _ t) in
+      omega (arith, leb-true (sizesOf w m .P) 1048576 (and-right (leb 1 (sizesOf w m .P)) (leb (sizesOf w m .P) 1048576) b), F .postings-fit)
+
   pub postings-there : w * p ≤ length ps
   postings-there = rw (postings-long w m w2 l) (mul-le-mul-left w (F .postings-fit))
+
+  -- the postings and the query's hashes can be searched
+  pub sought : (hs : List ℕ) → malformed w queryMost hs ≡ false → Sought ps w p hs (w - 1) (length (hashesOf w hs))
+  sought hs e = record {
+    posting = omega arith;
+    postings = postings-there;
+    ascend = F .keys;
+    counted = omega (arith, postings-few);
+    hash = omega arith;
+    hashes = rw (hashes-long w hs) (mul-div-le (length hs) (w - 1));
+    few = rw (hashes-long w hs) (few-hashes w hs e);
+  }
 
   -- each posting is of a live recording
   pub live-entries : All (λ e. (getD e 1 0 < n) × (rowWord rs (getD e 1 0) 2 ≡ 1)) (entries w p ps)

@@ -1,14 +1,12 @@
 -- The words of a query's votes in the order in which they are gathered (document 01: "For each query hash, the part of the postings under
 -- its key is handed on"). Hashes and postings are entries of words, the key first. Definitions only. Assumes nothing.
-use mathlib.Core.Path.{_≡_}
-use mathlib.Core.Bool.{true}
 use mathlib.Core.List.{List, [], _∷_, _++_, map}
-use Prim.Native.Nat.{ℕ, suc, _*_, _-_, _^_, _≤_, _<_}
+use Prim.Native.Nat.{ℕ, suc, _^_, _<_}
 use lib.IntN.{ℤ}
-use lib.ListN.{length, getD}
+use lib.ListN.{getD}
 use Rattle.lists.specs.Lists.{All, flat}
 use Rattle.lists.specs.Keys.{under}
-use Rattle.lists.specs.Entries.{keyOf, keysAscend}
+use Rattle.lists.specs.Entries.{keyOf}
 
 -- the postings under the key of query hash h
 abbrev pub found : List (List ℕ) → List ℕ → List (List ℕ)
@@ -37,9 +35,3 @@ module _ (pair : Pairing) where
 -- an id is of 12 bits
 abbrev pub Ids : List (List ℕ) → Type 0
 Ids es = All (λ e. getD e 1 0 < 2 ^ 12) es
-
--- of the words: p postings of width w in the order of their keys, and m query hashes, which have one word less
-pub record Walk (w : ℕ) (ps : List ℕ) (p : ℕ) (hs : List ℕ) (m : ℕ) : Type 0 where
-  pub postings : w * p ≤ length ps
-  pub ascend : keysAscend ps w p ≡ true
-  pub hashes : (w - 1) * m ≤ length hs

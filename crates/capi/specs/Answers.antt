@@ -5,8 +5,7 @@ use lib.Ieee.{binary32, toBits}
 use Rattle.matching.specs.declared.MatchResult.{MatchResult}
 use Rattle.model.specs.Calls.{Answer, built, stored, removed, count, best, nothing, refused}
 use Rattle.model.specs.Query.{Query}
-use Rattle.judging.specs.declared.WangMatchConfig.{WangMatchConfig}
-use Rattle.judging.specs.Scheme.{wang}
+use Rattle.judging.specs.Scheme.{configOf, wang}
 use Rattle.querying.specs.Asked.{asked}
 use Rattle.panako_vote.specs.declared.PanakoMatchConfig.{PanakoMatchConfig}
 use Rattle.panako_judging.specs.Scheme.{panako}
@@ -33,11 +32,8 @@ answerWords (refused n) = caseWords 6 n
 
 -- ---- a Wang query's settings, as words
 
-abbrev pub wangConfig : ℕ → ℕ → ℕ → ℕ → WangMatchConfig
-wangConfig tolerance votes score prominence = record { «offset_tolerance_frames» = tolerance; «min_votes» = votes; «min_score» = single score; «min_prominence» = single prominence }
-
 abbrev pub wangAsked : List ℕ → ℕ → ℕ → ℕ → ℕ → ℕ → ℕ → Query wang
-wangAsked hashes rate tolerance votes score prominence scratch = asked (wangConfig tolerance votes score prominence) (single rate) hashes scratch
+wangAsked hashes rate tolerance votes score prominence scratch = asked (configOf tolerance votes score prominence) (single rate) hashes scratch
 
 -- ---- and a Panako query's
 

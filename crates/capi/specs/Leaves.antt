@@ -5,8 +5,7 @@ use Prim.Native.Nat.{ℕ, _/_}
 use lib.IntN.{ℤ}
 use lib.Dec.{leb}
 use lib.ListN.{length}
-use lib.Ieee.{Float, binary32, toBits}
-use Rattle.floats.specs.Selection.{zero}
+use lib.Ieee.{binary32, toBits}
 use Rattle.consolidate.specs.declared.Mode.the-variants.{At, Nothing}
 use Rattle.consolidate.specs.declared.CheckedMode.{CheckedMode}
 use Rattle.consolidate.specs.declared.CheckedMode.the-variants as checked-mode
@@ -45,11 +44,6 @@ abbrev pub voteWords : CheckedVote → List ℕ
 voteWords checked-vote.Refused = refusedWords
 voteWords checked-vote.Nothing = 1 ∷ 0 ∷ 0 ∷ 0 ∷ 0 ∷ 0 ∷ 0 ∷ 0 ∷ []
 voteWords (checked-vote.At bin offset) = 2 ∷ bin ∷ twosComplement offset ∷ 0 ∷ 0 ∷ 0 ∷ 0 ∷ 0 ∷ []
-
--- the settings that a vote depends on, the others 0
-abbrev pub settings : Float → Float → ℕ → ℕ → PanakoMatchConfig
-settings min max bins tolerance =
-    record { «scale_min» = min; «scale_max» = max; «scale_bins» = bins; «offset_tolerance_frames» = tolerance; «min_votes» = 0; «min_score» = zero; «min_prominence» = zero }
 
 abbrev pub settingsWords : PanakoMatchConfig → List ℕ
 settingsWords c = flag (withinLimits c) ∷ toBits binary32 (c .«scale_min») ∷ toBits binary32 (c .«scale_max») ∷ c .«scale_bins» ∷ 0 ∷ 0 ∷ 0 ∷ 0 ∷ []

@@ -10,10 +10,9 @@ ghost use Rattle.store.specs.Answers.{countAnswer, removalAnswer};
 ghost use Rattle.ranking.specs.Answers.{findingAnswer, scratchAfter};
 ghost use Rattle.judging.specs.Scheme.{wang};
 ghost use Rattle.panako_judging.specs.Scheme.{panako};
-ghost use Rattle.capi.specs.Answers.{bestWords, answerWords, wangConfig, wangAsked, panakoConfig, panakoAsked};
+ghost use Rattle.capi.specs.Answers.{bestWords, answerWords, wangAsked, panakoConfig, panakoAsked};
 use building::Building;
 use insertion::Insertion;
-use judging::WangMatchConfig;
 use matching::MatchResult;
 use panako::PanakoIndex;
 use panako_vote::PanakoMatchConfig;
@@ -188,22 +187,6 @@ pub extern "C" fn wang_index_live_count(
     put_count(answer, WangIndex::live_count(refs, postings, stopped));
 }
 
-fn wang_config(
-    tolerance: u32,
-    min_votes: u32,
-    min_score: u32,
-    min_prominence: u32,
-) -> WangMatchConfig
-    ensures { λ r. ⌜ r ≡ wangConfig tolerance «min_votes» «min_score» «min_prominence» ⌝ }
-{
-    WangMatchConfig {
-        offset_tolerance_frames: tolerance,
-        min_votes,
-        min_score: floats::f32_from_bits(min_score),
-        min_prominence: floats::f32_from_bits(min_prominence),
-    }
-}
-
 #[no_mangle]
 pub extern "C" fn wang_index_query(
     refs: &[u32],
@@ -221,7 +204,7 @@ pub extern "C" fn wang_index_query(
     ensures { λ _. ⌜ now (answer .exit) ≡ answerWords (run wang (words (now (refs .entry)) (now (postings .entry)) (now (stopped .entry))) (query (wangAsked (now (hashes .entry)) rate tolerance «min_votes» «min_score» «min_prominence» (length (now (scratch .entry))))) .0) ⌝ }
     ensures { λ _. ⌜ now (scratch .exit) ≡ scratchAfter (run wang (words (now (refs .entry)) (now (postings .entry)) (now (stopped .entry))) (query (wangAsked (now (hashes .entry)) rate tolerance «min_votes» «min_score» «min_prominence» (length (now (scratch .entry))))) .0) (now (scratch .entry)) ⌝ }
 {
-    let cfg = wang_config(tolerance, min_votes, min_score, min_prominence);
+    let cfg = judging::config_of(tolerance, min_votes, min_score, min_prominence);
     let fps = floats::f32_from_bits(rate);
     put_finding(
         answer,
@@ -300,7 +283,8 @@ pub extern "C" fn panako_index_live_count(
     put_count(answer, PanakoIndex::live_count(refs, postings, stopped));
 }
 
-fn panako_config(
+// Settings from words, the floats by their bits.
+pub fn panako_config(
     scale_min: u32,
     scale_max: u32,
     scale_bins: u32,

@@ -7,18 +7,16 @@ ghost use lib.ListN.{length, take, drop};
 ghost use Rattle.sorting.specs.Sort.{sortZ};
 ghost use Rattle.consolidate.specs.Limits.{checkedMode, checkedPeak};
 ghost use Rattle.hough.specs.Limits.{checkedAnswer};
-ghost use Rattle.panako_vote.specs.Settings.{normalised, withinLimits};
+ghost use Rattle.panako_vote.specs.Settings.{normalised};
 ghost use Rattle.panako_vote.specs.Votes.{checkedVote};
-ghost use Rattle.capi.specs.Codes.{single, flag};
-ghost use Rattle.capi.specs.Leaves.{roomFor, modeWords, peakWords, houghWords, voteWords, settings, settingsWords};
+ghost use Rattle.capi.specs.Codes.{flag};
+ghost use Rattle.capi.specs.Answers.{panakoConfig};
+ghost use Rattle.capi.specs.Leaves.{roomFor, modeWords, peakWords, houghWords, voteWords, settingsWords};
 use consolidate::CheckedMode;
 use consolidate::CheckedPeak;
 use consolidate::Mode;
-use consolidate::Peak;
-use hough::Answer;
 use hough::CheckedAnswer;
 use panako_vote::CheckedVote;
-use panako_vote::PanakoMatchConfig;
 
 // Sorts the first n words, with the next n as room, and says 1. Without that room it says 0, and
 // nothing is changed. What the room holds afterwards is left open.
@@ -98,22 +96,7 @@ pub extern "C" fn hough_panako_peak(bins: &[i64], tol: u64, answer: &mut [u64; 8
     }
 }
 
-// The settings that a vote depends on.
-fn settings_of(scale_min: u32, scale_max: u32, scale_bins: u32, tolerance: u32) -> PanakoMatchConfig
-    ensures { λ r. ⌜ r ≡ settings (single «scale_min») (single «scale_max») «scale_bins» tolerance ⌝ }
-{
-    PanakoMatchConfig {
-        scale_min: floats::f32_from_bits(scale_min),
-        scale_max: floats::f32_from_bits(scale_max),
-        scale_bins,
-        offset_tolerance_frames: tolerance,
-        min_votes: 0,
-        min_score: 0.0,
-        min_prominence: 0.0,
-    }
-}
-
-// Whether they lie within the limits, then the scale ends and bins, all after `normalize_config`.
+// Whether the settings that a vote depends on lie within the limits, then the scale ends and bins, all after `normalize_config`.
 #[no_mangle]
 pub extern "C" fn panako_normalize_config(
     scale_min: u32,
@@ -122,9 +105,10 @@ pub extern "C" fn panako_normalize_config(
     tolerance: u32,
     answer: &mut [u64; 8],
 )
-    ensures { λ _. ⌜ now (answer .exit) ≡ settingsWords (normalised (settings (single «scale_min») (single «scale_max») «scale_bins» tolerance)) ⌝ }
+    ensures { λ _. ⌜ now (answer .exit) ≡ settingsWords (normalised (panakoConfig «scale_min» «scale_max» «scale_bins» tolerance 0 0 0)) ⌝ }
 {
-    let c = panako_vote::normalize_config(settings_of(scale_min, scale_max, scale_bins, tolerance));
+    let cfg = crate::index::panako_config(scale_min, scale_max, scale_bins, tolerance, 0, 0, 0);
+    let c = panako_vote::normalize_config(cfg);
     let within = crate::flag_of(panako_vote::within_limits(c)) as u64;
     let min = floats::f32_to_bits(c.scale_min) as u64;
     let max = floats::f32_to_bits(c.scale_max) as u64;
@@ -144,9 +128,9 @@ pub extern "C" fn panako_pair_vote(
     r_end: u32,
     answer: &mut [u64; 8],
 )
-    ensures { λ _. ⌜ now (answer .exit) ≡ voteWords (checkedVote (settings (single «scale_min») (single «scale_max») «scale_bins» 0) «q_anchor» «q_end» «r_anchor» «r_end») ⌝ }
+    ensures { λ _. ⌜ now (answer .exit) ≡ voteWords (checkedVote (panakoConfig «scale_min» «scale_max» «scale_bins» 0 0 0 0) «q_anchor» «q_end» «r_anchor» «r_end») ⌝ }
 {
-    let cfg = settings_of(scale_min, scale_max, scale_bins, 0);
+    let cfg = crate::index::panako_config(scale_min, scale_max, scale_bins, 0, 0, 0, 0);
     match panako_vote::checked_vote(cfg, q_anchor, q_end, r_anchor, r_end) {
         CheckedVote::Refused => {
             *answer = [0, 0, 0, 0, 0, 0, 0, 0];

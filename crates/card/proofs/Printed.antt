@@ -14,11 +14,11 @@ use Rattle.lists.proofs.Entries.{drop-take}
 use Rattle.lists.proofs.Tests.{test, not-both}
 use Rattle.model.specs.Words.{Words}
 use Rattle.text.specs.Bytes.{bigEndian}
-use Rattle.records.specs.Kinds.{goodLength}
+use Rattle.kinds.specs.Kinds.{goodLength}
 use Rattle.records.specs.Step.{stepOf}
 use Rattle.card.specs.declared.Progress.{Progress}
 use Rattle.card.specs.Ends.{header, endLine, faultLine}
-use Rattle.card.specs.Sheet.{Card, faulty, ended, preceded, lengthAt, recordAt, whole, recordsFrom, linesOf, lastLine, sheetOn, zeroed, sheetOf}
+use Rattle.card.specs.Sheet.{Card, faulty, ended, preceded, lengthAt, recordAt, whole, recordsFrom, linesOf, lastLine, sheetOn, emptyStore, sheetOf}
 use Rattle.card.specs.Turns.{Outcome, last, taken, halted, advanced, turnOf, bodyLength, readOf, versionFits, limit, goesOn, startLines, started, turnLines, printed}
 use Rattle.card.proofs.Reading.{Whole, whole-none, whole-is, is-whole, body-fits, record-some, record-short}
 use Rattle.card.proofs.Turns.{turn-end, turn-fault, turn-record}
@@ -206,6 +206,6 @@ printed-is m [] l = wrong-version m 0 []
 printed-is m (v ∷ s) l =
     by-version m s (eqb v 1) (omega arith) ∙ ap (λ (x : List ℕ). header ++ x) (rest-all m (cond (eqb v 1) (recordsFrom (length s) 1 s) (faulty 0)))
 
-pub printed-sheet : (s : List ℕ) → length s < limit → printed (zeroed 32 1024 256) s ≡ sheetOf s
+pub printed-sheet : (s : List ℕ) → length s < limit → printed emptyStore s ≡ sheetOf s
 unfolding sheetOf
-printed-sheet s l = printed-is (zeroed 32 1024 256) s l
+printed-sheet s l = printed-is emptyStore s l

@@ -9,8 +9,8 @@ use lib.ListN.{length, getD, take, drop, length-drop}
 use lib.Seq.{length-take-le, getD-take, getD-drop}
 use borrow.Author.Tests.{leb-true, le-leb, lt-leb, eq-eqb, ne-eqb}
 use Rattle.lists.proofs.Tests.{and-left, and-right}
-use Rattle.records.specs.Kinds.{goodLength}
-use Rattle.records.proofs.Steps.{good-long}
+use Rattle.kinds.specs.Kinds.{goodLength}
+use Rattle.kinds.proofs.Lengths.{good-long}
 use Rattle.card.specs.Sheet.{lengthAt, recordAt, whole}
 use Rattle.card.specs.Turns.{bodyLength, versionFits}
 

@@ -1,12 +1,12 @@
 -- Laws of the beginning and of a turn. Assumes nothing.
-use mathlib.Core.Path.{_≡_, refl, sym, ap, subst}
+use mathlib.Core.Path.{_≡_, refl, sym, ap, _∙_, subst}
 use mathlib.Core.Bool.{Bool, true, false}
 use mathlib.Core.List.{List, [], _∷_}
 use Prim.Native.Nat.{ℕ, _-_, _+_, _≤_, _<_}
 use native.Mathlib.Omega.{arith}
 use lib.ListN.{length}
-use lib.Dec.{ltb}
-use borrow.Author.Tests.{ltb-true}
+use lib.Dec.{eqb, ltb}
+use borrow.Author.Tests.{ltb-true, eq-eqb, ne-eqb}
 use Rattle.lists.specs.Lists.{none?}
 use Rattle.lists.proofs.Tests.{test, and-left, and-right}
 use Rattle.model.specs.Words.{Words}
@@ -15,36 +15,47 @@ use Rattle.text.proofs.Puts.{join, as-text}
 use Rattle.card.specs.declared.Progress.{Progress}
 use Rattle.card.specs.Ends.{header, endLine, faultLine}
 use Rattle.card.specs.Sheet.{lengthAt, whole}
-use Rattle.card.specs.Turns.{halted, advanced, last, taken, turnOf, versionFits, limit, goesOn, startLines, started}
-use Rattle.card.proofs.Reading.{whole-is}
+use Rattle.card.specs.Turns.{halted, advanced, last, taken, lastOf, turnOf, versionFits, limit, goesOn, startLines, started}
+use Rattle.card.proofs.Reading.{whole-none}
 
 -- ---- the beginning
 
 module _ (v : List ℕ) {l k : List ℕ} {a : ℕ} (put : Put l k 0 a header) where
-  pub begun : versionFits v ≡ true → Put l k 0 a (startLines (versionFits v)) × (record { records = 0; offset = 1; more = true } ≡ started (versionFits v))
-  begun e = (as-text put (ap startLines (sym e)), ap started (sym e))
+  pub begun : versionFits v ≡ true → Put l k 0 a (startLines (versionFits v))
+  begun e = as-text put (ap startLines (sym e))
 
-  pub begun-wrong : {n : List ℕ} {b : ℕ} → versionFits v ≡ false → Put k n a b (faultLine 0)
-      → Put l n 0 b (startLines (versionFits v)) × (record { records = 0; offset = 1; more = false } ≡ started (versionFits v))
-  begun-wrong e q = (as-text (join put q) (ap startLines (sym e)), ap started (sym e))
+  pub begun-wrong : {n : List ℕ} {b : ℕ} → versionFits v ≡ false → Put k n a b (faultLine 0) → Put l n 0 b (startLines (versionFits v))
+  begun-wrong e q = as-text (join put q) (ap startLines (sym e))
 
 -- ---- a turn
 
-module _ (m : Words) (p : Progress) where
-  pub turn-end : (s : List ℕ) → length s ≡ 0 → turnOf m p s ≡ last m p (endLine (p .records))
-  unfolding turnOf
-  turn-end [] h = refl
-  turn-end (x ∷ s) h = absurd (omega arith)
+pub nothing-is : (s : List ℕ) → eqb (length s) 0 ≡ none? s
+nothing-is [] = refl
+nothing-is (x ∷ s) = ne-eqb (length (x ∷ s)) 0 (λ e. omega arith)
 
-  pub turn-fault : (s : List ℕ) → (length s ≡ 0 → ⊥) → whole s ≡ false → turnOf m p s ≡ last m p (faultLine (p .offset))
-  unfolding turnOf
-  turn-fault [] n h = absurd (n refl)
-  turn-fault (x ∷ s) n h = rw h
+pub last-end : (p : Progress) (nothing : Bool) → nothing ≡ true → lastOf p nothing ≡ endLine (p .records)
+last-end p nothing e = rw e
 
-  pub turn-record : (s : List ℕ) → whole s ≡ true → turnOf m p s ≡ taken m p s
+pub last-fault : (p : Progress) (nothing : Bool) → nothing ≡ false → lastOf p nothing ≡ faultLine (p .offset)
+last-fault p nothing e = rw e
+
+module _ (m : Words) (p : Progress) (s : List ℕ) where
+  pub turn-record : whole s ≡ true → turnOf m p s ≡ taken m p s
   unfolding turnOf
-  turn-record [] h = let w = whole-is [] h in absurd (omega (arith, w .begins))
-  turn-record (x ∷ s) h = rw h
+  turn-record h = rw h
+
+  pub turn-last : (nothing : Bool) → nothing ≡ none? s → whole s ≡ false → turnOf m p s ≡ last m p (lastOf p nothing)
+  unfolding turnOf
+  turn-last nothing e h = rw (h, e)
+
+  pub turn-end : length s ≡ 0 → turnOf m p s ≡ last m p (endLine (p .records))
+  turn-end z =
+      turn-last (eqb (length s) 0) (nothing-is s) (sym (whole-none s (omega arith)))
+      ∙ ap (λ (l : List ℕ). last m p l) (last-end p (eqb (length s) 0) (eq-eqb (length s) 0 z))
+
+  pub turn-fault : (length s ≡ 0 → ⊥) → whole s ≡ false → turnOf m p s ≡ last m p (faultLine (p .offset))
+  turn-fault z h =
+      turn-last (eqb (length s) 0) (nothing-is s) h ∙ ap (λ (l : List ℕ). last m p l) (last-fault p (eqb (length s) 0) (ne-eqb (length s) 0 z))
 
 -- ---- what a loop of turns needs
 
@@ -79,6 +90,5 @@ module _ (m : Words) (p : Progress) (s : List ℕ) (h : p .records ≤ p .offset
   pub next-turn : (q : Progress) → q ≡ turnOf m p s .next → Next p q
   unfolding turnOf
   next-turn q e =
-      test (none? s) (λ a. subst (λ (x : Progress). Next p x) (sym (rw a at e)) next-halted) (λ a.
-      test (whole s) (λ b. subst (λ (x : Progress). Next p x) (sym (rw (a, b) at e)) (next-advanced (lengthAt s)))
-      (λ b. subst (λ (x : Progress). Next p x) (sym (rw (a, b) at e)) next-halted))
+      test (whole s) (λ b. subst (λ (x : Progress). Next p x) (sym (rw b at e)) (next-advanced (lengthAt s)))
+      (λ b. subst (λ (x : Progress). Next p x) (sym (rw b at e)) next-halted)

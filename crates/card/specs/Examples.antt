@@ -33,8 +33,8 @@ use Rattle.judging.specs.Gates.{peakGates, gates, resultAt}
 use Rattle.judging.specs.Judge.{modeWithin, peakOf, distinct, seenOf, judgeBy}
 use Rattle.judging.specs.Scheme.{beyond, judge}
 use Rattle.text.specs.Bytes.{wordsOf, decimalIn, decimal, hexDigits}
-use Rattle.records.specs.Lines.{offsetText, matchText}
-use Rattle.records.specs.Kinds.{goodLength}
+use Rattle.lines.specs.Lines.{offsetText, matchText}
+use Rattle.kinds.specs.Kinds.{goodLength}
 use Rattle.records.specs.Step.{stepOf}
 use Rattle.card.specs.Ends.{header}
 use Rattle.card.specs.Sheet.{whole, recordsFrom, linesOf, sheetOn, zeroed}

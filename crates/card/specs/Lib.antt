@@ -2,4 +2,5 @@
 pub mod Ends
 pub mod Sheet
 pub mod Turns
+pub mod Lines
 pub mod Examples

@@ -9,7 +9,7 @@ use Rattle.lists.specs.Lists.{none?}
 use Rattle.model.specs.Words.{Words}
 use Rattle.text.specs.Bytes.{bigEndian}
 use Rattle.records.specs.Step.{stepOf}
-use Rattle.records.specs.Kinds.{goodLength}
+use Rattle.kinds.specs.Kinds.{goodLength}
 use Rattle.card.specs.Ends.{header, endLine, faultLine}
 
 -- ── the records of a card ──
@@ -75,5 +75,8 @@ unfoldable pub zeroed : ℕ → ℕ → ℕ → Words
 zeroed R P K = record { references = replicate (4 + 4 * R) 0; postings = replicate (3 * P) 0; stopped = replicate K 0 }
 
 -- "Its buffers begin zeroed: R 32, P 1,024, K 256"
+unfoldable pub emptyStore : Words
+emptyStore = zeroed 32 1024 256
+
 unfoldable pub sheetOf : List ℕ → List ℕ
-sheetOf s = sheetOn (zeroed 32 1024 256) s
+sheetOf s = sheetOn emptyStore s

@@ -20,7 +20,7 @@ pub record Outcome : Type 0 where
   pub store : Words
   pub next : Progress
 
--- the last line of all
+-- behind the last line
 abbrev pub halted : Progress → Progress
 halted p = record { records = p .records; offset = p .offset; more = false }
 
@@ -34,9 +34,13 @@ last m p line = record { line = line; store = m; next = halted p }
 abbrev pub taken : Words → Progress → List ℕ → Outcome
 taken m p s = record { line = stepOf m (recordAt s) .0; store = stepOf m (recordAt s) .1; next = advanced p (lengthAt s) }
 
--- a turn on the bytes s that were read for it: the end's line where there are none, a record's line, or a fault's
+-- the end's line where nothing was read, else a fault's
+abbrev pub lastOf : Progress → Bool → List ℕ
+lastOf p nothing = cond nothing (endLine (p .records)) (faultLine (p .offset))
+
+-- a turn on the bytes s that were read for it: a whole record, or the last line
 unfoldable pub turnOf : Words → Progress → List ℕ → Outcome
-turnOf m p s = cond (none? s) (last m p (endLine (p .records))) (cond (whole s) (taken m p s) (last m p (faultLine (p .offset))))
+turnOf m p s = cond (whole s) (taken m p s) (last m p (lastOf p (none? s)))
 
 -- ── reading ──
 

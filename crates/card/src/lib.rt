@@ -5,10 +5,10 @@ ghost use Prim.Native.Nat.{_+_, _≤_, _<_};
 ghost use lib.ListN.{length};
 ghost use Rattle.soundness.specs.Scan.{words};
 ghost use Rattle.text.specs.Put.{Put};
-ghost use Rattle.records.specs.Kinds.{zeroScratch};
+ghost use Rattle.kinds.specs.Kinds.{zeroScratch};
 ghost use Rattle.card.specs.Ends.{header, endLine, faultLine};
 ghost use Rattle.card.specs.Sheet.{lengthAt, whole};
-ghost use Rattle.card.specs.Turns.{halted, advanced, turnOf, bodyLength, versionFits, limit, goesOn, startLines, started};
+ghost use Rattle.card.specs.Turns.{halted, advanced, lastOf, turnOf, bodyLength, versionFits, limit, goesOn, startLines, started};
 
 // How far a card has been read: the records so far, the offset of the next length field, and whether the card goes on.
 pub struct Progress {
@@ -51,6 +51,18 @@ fn put_fault(line: &mut [u8], at: usize, offset: u64) -> usize
     text::put_short(line, at, 88, offset)
 }
 
+// The last line, after a read that yielded nothing or no whole record.
+fn put_last(line: &mut [u8], at: usize, p: Progress, nothing: bool) -> usize
+    requires { ⌜ at + 128 ≤ length (now line) ⌝ }
+    ensures { λ r. ⌜ Put (now (line .entry)) (now (line .exit)) at r (lastOf p nothing) ⌝ }
+    ensures { λ r. ⌜ r ≤ at + 128 ⌝ }
+{
+    if nothing {
+        return put_end(line, at, p.records);
+    }
+    put_fault(line, at, p.offset)
+}
+
 // ---- reading
 
 // The length field at the beginning of some bytes.
@@ -88,7 +100,7 @@ fn is_whole(s: &[u8]) -> bool
     if s.len() - 4 < len {
         return false;
     }
-    records::good_length(len, s[4])
+    kinds::good_length(len, s[4])
 }
 
 // Whether what was read of the version byte is 01.
@@ -103,7 +115,7 @@ fn version_fits(version: &[u8]) -> bool
 
 // ---- progress
 
-// The same, at the last line of all.
+// Behind the last line.
 fn stop(p: Progress) -> Progress
     ensures { λ r. ⌜ r ≡ halted p ⌝ }
 {
@@ -142,24 +154,19 @@ pub fn begin(version: &[u8], line: &mut [u8]) -> Turned
     ensures { λ r. ⌜ r .end ≤ 256 ⌝ }
     ensures { λ r. ⌜ r .next ≡ started (versionFits (now (version .entry))) ⌝ }
 {
-    let end = put_header(line, 0);
-    if version_fits(version) {
-        return Turned {
-            end,
-            next: Progress {
-                records: 0,
-                offset: 1,
-                more: true,
-            },
-        };
+    let fits = version_fits(version);
+    let next = Progress {
+        records: 0,
+        offset: 1,
+        more: fits,
+    };
+    let head = put_header(line, 0);
+    if fits {
+        return Turned { end: head, next };
     }
     Turned {
-        end: put_fault(line, end, 0),
-        next: Progress {
-            records: 0,
-            offset: 1,
-            more: false,
-        },
+        end: put_fault(line, head, 0),
+        next,
     }
 }
 
@@ -183,15 +190,9 @@ pub fn turn(
     ensures { λ r. ⌜ r .next ≡ turnOf (words (now (refs .entry)) (now (postings .entry)) (now (stopped .entry))) p (now (bytes .entry)) .next ⌝ }
     ensures { λ _. ⌜ now (scratch .exit) ≡ zeroScratch ⌝ }
 {
-    if bytes.len() == 0 {
-        return Turned {
-            end: put_end(line, at, p.records),
-            next: stop(p),
-        };
-    }
     if !is_whole(bytes) {
         return Turned {
-            end: put_fault(line, at, p.offset),
+            end: put_last(line, at, p, bytes.len() == 0),
             next: stop(p),
         };
     }

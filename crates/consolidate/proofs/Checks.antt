@@ -1,7 +1,7 @@
 -- The tests say what the records say: they accept every argument that a record holds for, and no other. Assumes nothing.
 use Prim.Native.Nat.{ℕ, _+_, _*_, _^_, _≤_, _<_}
 use mathlib.Core.Path.{_≡_, refl}
-use mathlib.Core.Bool.{true, _&&_, _||_}
+use mathlib.Core.Bool.{Bool, true, _&&_, _||_}
 use mathlib.Core.List.{List, [], _∷_}
 use native.Mathlib.Omega.{arith}
 use native.Mathlib.Decide.{decLe}
@@ -18,6 +18,18 @@ use Rattle.lists.proofs.Every.{every-at, every-make}
 use Rattle.consolidate.specs.Box.{count}
 use Rattle.consolidate.specs.Limits.{Bins, binOk, binsOk, Span, endsOk, inSpan, spanOk}
 use Rattle.maps.proofs.Tests.{holds, is-true}
+
+-- ---- a test of each bin but the last
+
+pub next-of : (n i : ℕ) (b : Bool) → (leb n (i + 1) || b) ≡ true → i + 1 < n → T b
+next-of n i b e h = holds (or-else (leb n (i + 1)) b e (lt-leb n (i + 1) h))
+
+pub next-ok : (n i : ℕ) (b : Bool) → (i + 1 < n → T b) → (leb n (i + 1) || b) ≡ true
+next-ok n i b h = go (decLe n (i + 1))
+  where
+    go : Dec (n ≤ i + 1) → (leb n (i + 1) || b) ≡ true
+    go (yes p) = rw (le-leb n (i + 1) p) refl
+    go (no q) = or-right (leb n (i + 1)) b (is-true b (h (omega arith)))
 
 -- ---- the mode's bins
 
@@ -80,7 +92,7 @@ span-of l n tol low high e =
           ltb-true 0 (votes l i) (and-left a (b && (c && d)) e),
           holds (and-left b (c && d) e₁),
           holds (and-left c d e₂),
-          (λ u. holds (or-else (leb n (i + 1)) (ltZ (offset l i) (offset l (i + 1))) (and-right c d e₂) (lt-leb n (i + 1) u))),
+          next-of n i (ltZ (offset l i) (offset l (i + 1))) (and-right c d e₂),
         )
 
 pub span-ok : (l : List ℤ) (n tol : ℕ) (low high : ℤ) → Span l n tol low high → spanOk l n tol low high ≡ true
@@ -95,12 +107,8 @@ span-ok l n tol low high S =
       le-leb (sumTo (votes l) n) 1000000 (S .sum),
     ) refl
   where
-    rise : (i : ℕ) → Dec (n ≤ i + 1) → (leb n (i + 1) || ltZ (offset l i) (offset l (i + 1))) ≡ true
-    rise i (yes p) = rw (le-leb n (i + 1) p) refl
-    rise i (no q) = or-right (leb n (i + 1)) (ltZ (offset l i) (offset l (i + 1))) (is-true (ltZ (offset l i) (offset l (i + 1))) (S .ascend i (omega arith)))
-
     at : (i : ℕ) → i < n → inSpan l n low high i ≡ true
-    at i h = rw (lt-ltb 0 (votes l i) (S .some i h), is-true (leZ low (offset l i)) (S .up i h), is-true (leZ (offset l i) high) (S .down i h)) (rise i (decLe n (i + 1)))
+    at i h = rw (lt-ltb 0 (votes l i) (S .some i h), is-true (leZ low (offset l i)) (S .up i h), is-true (leZ (offset l i) high) (S .down i h)) (next-ok n i (ltZ (offset l i) (offset l (i + 1))) (S .ascend i))
 
 -- there are such arguments: the first example of document 01
 pub shown : Span (pos 3 ∷ pos 2 ∷ pos 5 ∷ pos 2 ∷ []) 2 1 (pos 0) (pos 8)

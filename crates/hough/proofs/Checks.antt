@@ -4,17 +4,17 @@ use mathlib.Core.Path.{_≡_, refl}
 use mathlib.Core.Bool.{true, _&&_, _||_}
 use mathlib.Core.List.{List, [], _∷_}
 use native.Mathlib.Omega.{arith}
-use native.Mathlib.Decide.{decLe}
 use lib.IntN.{ℤ, pos, natAbs}
 use lib.Signed.{nonNeg}
 use lib.Dec.{T, leb}
 use lib.ListN.{length}
-use borrow.Author.Tests.{leb-true, le-leb, lt-leb}
+use borrow.Author.Tests.{leb-true, le-leb}
 use Rattle.maps.specs.Sums.{sumTo}
 use Rattle.lists.specs.Every.{every}
-use Rattle.lists.proofs.Tests.{and-left, and-right, or-else, or-right}
+use Rattle.lists.proofs.Tests.{and-left, and-right}
 use Rattle.lists.proofs.Every.{every-at, every-make}
 use Rattle.maps.proofs.Tests.{holds, is-true}
+use Rattle.consolidate.proofs.Checks.{next-of, next-ok}
 use Rattle.hough.specs.Hough.{scaleWord, offset, count, scale, votes}
 use Rattle.hough.specs.Limits.{before, Bins, binOk, binsOk}
 
@@ -41,7 +41,7 @@ one l n i e =
       scales = leb-true (scale l i) 4095 (and-right a b e₁);
       close = leb-true (natAbs (offset l i)) (2 ^ 39) (and-left c (d && r) e₂);
       counted = holds (and-left d r e₃);
-      rises = λ u. holds (or-else (leb n (i + 1)) (before l i (i + 1)) (and-right d r e₃) (lt-leb n (i + 1) u));
+      rises = next-of n i (before l i (i + 1)) (and-right d r e₃);
     }
 
 pub bins-of : (l : List ℤ) (n : ℕ) → binsOk l n ≡ true → Bins l n
@@ -70,14 +70,10 @@ unfolding binsOk
 bins-ok l n b =
     rw (le-leb n 1000000 (b .few), le-leb (3 * n) (length l) (b .room), every-make (binOk l n) n at, le-leb (sumTo (votes l) n) 1000000 (b .sum)) refl
   where
-    rise : (i : ℕ) → Dec (n ≤ i + 1) → (leb n (i + 1) || before l i (i + 1)) ≡ true
-    rise i (yes p) = rw (le-leb n (i + 1) p) refl
-    rise i (no q) = or-right (leb n (i + 1)) (before l i (i + 1)) (is-true (before l i (i + 1)) (b .ascend i (omega arith)))
-
     at : (i : ℕ) → i < n → binOk l n i ≡ true
     at i h =
         rw (is-true (nonNeg (scaleWord l i)) (b .scaled i h), le-leb (scale l i) 4095 (b .scales i h), le-leb (natAbs (offset l i)) (2 ^ 39) (b .close i h), is-true (nonNeg (count l i)) (b .counted i h))
-        (rise i (decLe n (i + 1)))
+        (next-ok n i (before l i (i + 1)) (b .ascend i))
 
 -- there are such bins: the example of document 01
 pub shown : Bins (pos 4 ∷ pos 10 ∷ pos 2 ∷ pos 5 ∷ pos 10 ∷ pos 3 ∷ pos 9 ∷ pos 10 ∷ pos 1 ∷ []) 3

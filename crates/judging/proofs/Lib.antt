@@ -1,5 +1,4 @@
 -- Laws that belong to no one function.
-pub mod Counts
 pub mod Words
 pub mod Modes
 pub mod Peaks

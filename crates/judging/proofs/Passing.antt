@@ -7,10 +7,9 @@ use lib.Dec.{leb}
 use lib.Ieee.{Float}
 use borrow.Author.Tests.{le-leb, lt-leb}
 use Rattle.lists.specs.Every.{allTrue}
-use Rattle.matching.specs.Rates.{ratesAgree}
 use Rattle.matching.specs.Scores.{belowThreshold}
 use Rattle.matching.specs.declared.MatchResult.{MatchResult}
-use Rattle.judging.specs.Gates.{Asked, AtPeak, peakGates, gates, resultAt, passing, verdictOf}
+use Rattle.judging.specs.Gates.{Asked, AtPeak, admits, peakGates, gates, resultAt, passing, verdictOf}
 use Rattle.judging.specs.declared.Verdict.{Verdict}
 use Rattle.judging.specs.declared.Verdict.the-variants.{Barred, Passed}
 
@@ -53,15 +52,10 @@ module _ (k : Asked) (rate : Float) (votes : ℕ) (p : AtPeak) (r : MatchResult)
   abbrev pub Judged : Verdict → Type 0
   Judged v = v ≡ verdictOf (passing (gates k rate votes p) r)
 
-  pub bar-rate : ratesAgree (k .rate) rate ≡ false → Judged Barred
+  pub bar-entry : admits (k .rate) rate (k .minVotes) votes ≡ false → Judged Barred
   unfolding gates allTrue
-  bar-rate b = rw b refl
+  bar-entry b = rw b refl
 
-  module _ (agree : ratesAgree (k .rate) rate ≡ true) where
-    pub bar-votes : votes < k .minVotes → Judged Barred
-    unfolding gates allTrue
-    bar-votes h = rw (agree, lt-leb (k .minVotes) votes h) refl
-
-    pub goes-on : k .minVotes ≤ votes → (v : Verdict) → Weighed k p r v → Judged v
-    unfolding gates allTrue
-    goes-on h v w = rw (agree, le-leb (k .minVotes) votes h) w
+  pub goes-on : admits (k .rate) rate (k .minVotes) votes ≡ true → (v : Verdict) → Weighed k p r v → Judged v
+  unfolding gates allTrue
+  goes-on b v w = rw b w

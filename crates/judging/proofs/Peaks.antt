@@ -14,11 +14,11 @@ use Rattle.lists.proofs.Tests.{test}
 use Rattle.maps.specs.Sums.{sumTo, when}
 use Rattle.maps.specs.Bins.{offset, votes, place}
 use Rattle.maps.proofs.Tests.{holds}
-use Rattle.maps.proofs.Sums.{sum-cong, sum-next, sum-none, sum-zeros, sum-term}
+use Rattle.maps.proofs.Sums.{sum-cong, sum-none, sum-term}
 use Rattle.bins.specs.Votes.{places, positions}
 use Rattle.bins.specs.Binned.{Binned}
 use Rattle.bins.specs.Distinct.{marked, distinctNear}
-use Rattle.bins.proofs.Sparse.{Sparse, Off}
+use Rattle.bins.proofs.Sparse.{Sparse, Off, one-of, when-none}
 use Rattle.consolidate.specs.Box.{within, window, modeNear, peakOver, boxPeak}
 use Rattle.consolidate.specs.Limits.{Span}
 use Rattle.consolidate.specs.Windows.{withinℕ}
@@ -32,10 +32,6 @@ use Rattle.judging.proofs.Modes.{sparse-mode}
 
 -- ---- small facts
 
-one-of : (f : ℕ → ℕ) (n j : ℕ) → j < n → ((i : ℕ) → i < n → (i ≡ j → ⊥) → f i ≡ 0) → sumTo f n ≡ f j
-one-of f n j h out =
-    omega (arith, sum-none f j (λ i k. out i (omega arith) (λ e. omega arith)), sum-next f j, sum-zeros f (j + 1) n (omega arith) (λ i k l. out i l (λ e. omega arith)))
-
 at-is : (low : ℤ) (x y : ℕ) → within 0 (low +ℤ pos x) (low +ℤ pos x) (low +ℤ pos y) ≡ eqb y x
 at-is low x y = within-is low 0 x x y ∙ test (eqb y x) (λ e. equal (eqb-true y x e)) (λ e. other (eqb-false y x e) (decLt y x) ∙ sym e)
   where
@@ -45,10 +41,6 @@ at-is low x y = within-is low 0 x x y ∙ test (eqb y x) (λ e. equal (eqb-true 
     other : (y ≡ x → ⊥) → Dec (y < x) → withinℕ 0 x x y ≡ false
     other n (yes p) = rw (lt-leb x (y + 0) (omega arith)) refl
     other n (no p) = rw (lt-leb y (x + 0) (omega arith)) (and-false (leb x (y + 0)))
-
-keep-none : (b : Bool) → when b 0 ≡ 0
-keep-none true = refl
-keep-none false = refl
 
 pub leZ-ltZ : (a b : ℤ) → leZ b a ≡ false → T (ltZ a b)
 leZ-ltZ (pos a) (pos b) e = rw (lt-ltb a b (leb-false b a e)) tt
@@ -128,7 +120,7 @@ module _ (n : Counts) (low : ℤ) (d q : ℕ → ℕ) (g : ℕ) (E : Tells n low
       unfolding modeNear modeWithin
       mode-is tol a b =
           sym (sparse-mode (place l low) (W + 1) k sparse (λ x. when (within tol a b (low +ℤ pos x)) (votesAt n (low +ℤ pos x))) (λ j. when (within tol a b (offset l j)) (votes l j))
-          (λ x. low +ℤ pos x) (offset l) (λ x h o. ap (when (within tol a b (low +ℤ pos x))) (off-bin x o) ∙ keep-none (within tol a b (low +ℤ pos x)))
+          (λ x. low +ℤ pos x) (offset l) (λ x h o. ap (when (within tol a b (low +ℤ pos x))) (off-bin x o) ∙ when-none (within tol a b (low +ℤ pos x)))
           (λ j h. ap₂ (λ (z : ℤ) (v : ℕ). when (within tol a b z) v) (sym (B .offsets j h)) (at-bin j h)) (λ j h. sym (B .offsets j h)))
 
       pub peak-is : (tol : ℕ) (high : ℤ) → high ≡ low +ℤ pos W → 0 < k → boxPeak l k tol low high ≡ peakOf n tol low (W + 1)

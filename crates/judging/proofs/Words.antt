@@ -1,22 +1,26 @@
 -- The votes in the words of the scratch: their counts as sums over places and positions. Assumes nothing.
 use mathlib.Core.Path.{_≡_, refl, sym, ap, _∙_, fun-ext}
 use mathlib.Core.Bool.{Bool}
-use mathlib.Core.List.{List, [], _∷_, map}
-use Prim.Native.Nat.{ℕ, _+_, _-_, _^_, _≤_, _<_}
+use mathlib.Core.List.{List}
+use Prim.Native.Nat.{ℕ, _+_, _-_, _*_, _^_, _≤_, _<_}
 use native.Mathlib.Omega.{arith}
 use lib.IntN.{ℤ, pos, negℤ, _+ℤ_, _-ℤ_, +ℤ-comm, +ℤ-assoc, +ℤ-negℤ-cancel, -ℤ-+ℤ-cancel}
-use lib.ListN.{length, getD, take, drop, length-drop}
-use lib.Seq.{getD-drop}
+use lib.ListN.{length, getD, drop}
 use Rattle.maps.specs.Sums.{sumTo, when}
 use Rattle.maps.specs.Lists.{count}
 use Rattle.maps.specs.Words.{SameOutside}
 use Rattle.maps.proofs.Sums.{sum-cong, sum-flat, sum-zero, sum-kept}
-use Rattle.maps.proofs.Lists.{sum-count}
+use Rattle.maps.proofs.Words.{outside-none}
 use Rattle.model.specs.Fingerprints.{Hash}
 use Rattle.model.specs.Rows.{anchor}
 use Rattle.bins.proofs.Votes.{packed-place, packed-position}
+use Rattle.bins.proofs.Stored.{stored-length, stored-outside}
+use Rattle.bins.proofs.Occupied.{occupied-few, bins-length}
+use Rattle.bins.proofs.Binning.{codes-length}
+use Rattle.bins.proofs.Binned.{count-words, stored-binned}
 use Rattle.judging.specs.Scheme.{voteOf}
-use Rattle.bins.specs.Votes.{packed, placeOf, places, positions}
+use Rattle.bins.specs.Votes.{wangForm, packed, placeOf, places, positions}
+use Rattle.bins.specs.Codes.{codesIn, occupied, binsOf, stored}
 use Rattle.bins.specs.Binned.{Binned}
 use Rattle.judging.specs.Judge.{Vote, Counts, anyVote}
 use Rattle.judging.specs.Candidates.{voteIn, countsIn, Limited, Candidate, Counted}
@@ -30,18 +34,9 @@ voteAt low d q t = record { delta = low +ℤ pos (d t); position = q t }
 abbrev pub Tells : Counts → ℤ → (ℕ → ℕ) → (ℕ → ℕ) → ℕ → Type 0
 Tells n low d q g = (p : Vote → Bool) → n p ≡ sumTo (λ t. when (p (voteAt low d q t)) 1) g
 
-count-map : {A B : Type 0} (f : A → B) (p : B → Bool) (xs : List A) → count p (map f xs) ≡ count (λ x. p (f x)) xs
-unfolding count
-count-map f p [] = refl
-count-map f p (x ∷ xs) = ap (λ (n : ℕ). when (p (f x)) 1 + n) (count-map f p xs)
-
 pub counts-tell : (top : ℕ) (s : List ℤ) (a g : ℕ) → a + g ≤ length s → Tells (countsIn top s a g) (negℤ (pos top)) (places s a) (positions s a) g
 unfolding countsIn places positions
-counts-tell top s a g h p =
-    count-map (voteIn top) p (take g (drop a s))
-    ∙ sym (sum-count (λ z. p (voteIn top z)) (pos 0) (drop a s) g (omega (arith, length-drop a s)))
-    ∙ sum-cong (λ t. when (p (voteIn top (getD (drop a s) t (pos 0)))) 1) (λ t. when (p (voteIn top (getD s (a + t) (pos 0)))) 1) g
-    (λ t l. ap (λ (z : ℤ). when (p (voteIn top z)) 1) (getD-drop a s t (pos 0)))
+counts-tell top s a g h p = count-words (voteIn top) p s a g h
 
 pub ones : (g : ℕ) → sumTo (λ t. 1) g ≡ g
 ones g = omega (arith, sum-flat (λ t. 1) 0 g 1 (omega arith) (λ x a b. refl), sum-zero (λ t. 1))
@@ -110,11 +105,26 @@ module _ (s₀ s : List ℤ) (a g at e : ℕ) (S : SameOutside s₀ s at e) (h :
   }
 
 -- a candidate whose bins were written
-pub candidate-counted : (s₀ s : List ℤ) (a g at e n : ℕ) (q : WangQuery) (rmax low : ℕ) → low ≡ q .«q_max» → Candidate s₀ a g at q rmax → length s ≡ length s₀ → SameOutside s₀ s at e
-    → Binned (places s₀ a) g (negℤ (pos low)) (drop at s) n → Counted s a g at n q rmax
-candidate-counted s₀ s a g at e n q rmax low le C len S B = record {
-  limited = limited-kept s₀ s a g at e S (C .group .before) q rmax (C .limited);
-  before = C .group .before;
-  room = omega (arith, C .group .room);
-  bins = rw (← le) (bins-kept s₀ s a g at e S (C .group .before) (negℤ (pos low)) (drop at s) n B);
-}
+pub candidate-counted : (s₀ s : List ℤ) (a g at n : ℕ) (q : WangQuery) (rmax low : ℕ) → low ≡ q .«q_max» → Candidate s₀ a g at q rmax
+    → n ≡ length (occupied (codesIn wangForm s₀ a g)) → s ≡ stored s₀ at (binsOf wangForm low (codesIn wangForm s₀ a g)) → Counted s a g at n q rmax × SameOutside s₀ s at (at + 2 * g)
+candidate-counted s₀ s a g at n q rmax low le C number written = (
+  record {
+    limited = limited-kept s₀ s a g at (at + 2 * g) same (C .group .before) q rmax (C .limited);
+    before = C .group .before;
+    room = omega (arith, C .group .room, long);
+    bins = rw (← le, number) (bins-kept s₀ s a g at (at + 2 * g) same (C .group .before) (negℤ (pos low)) (drop at s) (length (occupied ks))
+        (rw written (stored-binned s₀ a g at low (C .group .before) (C .group .room))));
+  },
+  same,
+)
+  where
+    ks : List ℕ
+    ks = codesIn wangForm s₀ a g
+
+    long : length s ≡ length s₀
+    long = ap length written ∙ stored-length s₀ at (binsOf wangForm low ks)
+
+    same : SameOutside s₀ s at (at + 2 * g)
+    same =
+        let few : length (occupied ks) ≤ g = omega (arith, occupied-few ks, codes-length wangForm s₀ a g (omega (arith, C .group .before, C .group .room))) in
+        rw written (stored-outside s₀ s₀ at (at + 2 * g) at (binsOf wangForm low ks) (outside-none s₀ at (at + 2 * g)) (omega arith) (omega (arith, bins-length wangForm low ks)))

@@ -3,7 +3,8 @@ use mathlib.Core.List.{List, map}
 use Prim.Native.Nat.{ℕ, _+_, _*_, _≤_, _<_}
 use lib.IntN.{ℤ, pos, negℤ, _+ℤ_}
 use lib.ListN.{length, take, drop}
-use Rattle.bins.specs.Votes.{placeOf, positionOf, places, Group}
+use Rattle.bins.specs.Votes.{wangForm, placeOf, positionOf, places}
+use Rattle.bins.specs.Codes.{Group}
 use Rattle.bins.specs.Binned.{Binned}
 use Rattle.judging.specs.Judge.{Vote, Counts, Seen, seenOf}
 use Rattle.judging.specs.Scheme.{countsOf}
@@ -36,7 +37,7 @@ pub record Limited (s : List ℤ) (a g : ℕ) (q : WangQuery) (rmax : ℕ) : Typ
 -- they are one candidate's, in order, and from word `at` on there is room for its bins
 pub record Candidate (s : List ℤ) (a g at : ℕ) (q : WangQuery) (rmax : ℕ) : Type 0 where
   pub limited : Limited s a g q rmax
-  pub group : Group s a g at
+  pub group : Group wangForm s a g at
 
 -- its n bins are there
 pub record Counted (s : List ℤ) (a g at n : ℕ) (q : WangQuery) (rmax : ℕ) : Type 0 where

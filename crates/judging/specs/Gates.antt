@@ -1,6 +1,6 @@
 -- The gates of a candidate, of Wang and of Panako alike: steps 1 to 4 of document 01's "Each candidate", and what passes them.
 -- Definitions only. Assumes nothing.
-use mathlib.Core.Bool.{Bool, true, cond, not}
+use mathlib.Core.Bool.{Bool, true, cond, not, _&&_}
 use mathlib.Core.List.{List, [], _∷_}
 use mathlib.Core.Option.{Option, none, some}
 use Prim.Native.Nat.{ℕ}
@@ -38,14 +38,17 @@ peakGates k p =
     ∷ not (belowThreshold (p .score) (k .minScore))
     ∷ []
 
--- "1 to 4, which are the gates": whether a candidate with this rate and so many votes passes each
-unfoldable pub gates : Asked → Float → ℕ → AtPeak → List Bool
-gates k rate votes p =
+-- gates 1 and 2: the query's rate, the candidate's, min_votes, its votes
+abbrev pub admits : Float → Float → ℕ → ℕ → Bool
+admits a b least votes =
     -- 1. "Rates a, b: finite, positive, |a − b| ≤ 0.001 × the larger, in f32."
-    ratesAgree (k .rate) rate
+    ratesAgree a b
     -- 2. "Too few votes against min_votes: no candidate."
-    ∷ leb (k .minVotes) votes
-    ∷ peakGates k p
+    && leb least votes
+
+-- "1 to 4, which are the gates": whether a candidate with this rate and so many votes passes them
+unfoldable pub gates : Asked → Float → ℕ → AtPeak → List Bool
+gates k rate votes p = admits (k .rate) rate (k .minVotes) votes ∷ peakGates k p
 
 -- the result of a candidate at its peak, with these frames, its rate and this time scale
 unfoldable pub resultAt : AtPeak → ℤ → Float → Float → MatchResult

@@ -1,5 +1,5 @@
 -- Wang's judge: steps 1 to 4 of document 01's "Each candidate", from a candidate's votes, its row and the query. All of it is said by
--- counts of votes, so their order can't matter (proofs/Counts.antt). Definitions only. Assumes nothing.
+-- counts of votes, so their order can't matter. Definitions only. Assumes nothing.
 use mathlib.Core.Bool.{Bool, true, _&&_}
 use mathlib.Core.Option.{Option}
 use Prim.Native.Nat.{ℕ, _+_}

@@ -6,7 +6,7 @@ use Prim.Native.Nat.{ℕ}
 use lib.IntN.{pos, _-ℤ_}
 use lib.ListN.{length}
 use lib.Dec.{ltb}
-use lib.Ieee.{Float}
+use lib.Ieee.{Float, binary32, ofBits}
 use Rattle.maps.specs.Lists.{count}
 use Rattle.matching.specs.declared.MatchResult.{MatchResult}
 use Rattle.model.specs.Fingerprints.{Hash}
@@ -15,6 +15,11 @@ use Rattle.model.specs.Query.{Scheme}
 use Rattle.judging.specs.Judge.{Vote, Counts, judgeBy}
 use Rattle.judging.specs.declared.WangMatchConfig.{WangMatchConfig}
 use Rattle.judging.specs.declared.WangQuery.{WangQuery}
+
+-- settings from words, the floats by their bits
+abbrev pub configOf : ℕ → ℕ → ℕ → ℕ → WangMatchConfig
+configOf tolerance votes score prominence =
+    record { «offset_tolerance_frames» = tolerance; «min_votes» = votes; «min_score» = ofBits binary32 score; «min_prominence» = ofBits binary32 prominence }
 
 -- a query's settings and rate
 pub record Ask : Type 0 where

@@ -10,9 +10,11 @@ ghost use Rattle.maps.specs.Words.{SameOutside};
 ghost use Rattle.matching.specs.Scores.{scoreOf};
 ghost use Rattle.consolidate.specs.Box.{boxPeak};
 ghost use Rattle.consolidate.specs.Limits.{Span};
-ghost use Rattle.judging.specs.Gates.{peakGates, resultAt, passing, verdictOf};
+ghost use Rattle.judging.specs.Gates.{admits, peakGates, resultAt, passing, verdictOf};
 ghost use Rattle.judging.specs.Judge.{distinct, askedOf, atPeak, resultOf, judgeBy};
+ghost use Rattle.judging.specs.Scheme.{configOf};
 ghost use Rattle.judging.specs.Candidates.{countsIn, seenIn, Candidate, Counted};
+use bins::Form;
 use consolidate::Peak;
 use matching::MatchResult;
 use matching::TimeOffset;
@@ -23,6 +25,23 @@ pub struct WangMatchConfig {
     pub min_votes: u32,
     pub min_score: f32,
     pub min_prominence: f32,
+}
+
+// Settings from words, the floats by their bits.
+pub fn config_of(
+    tolerance: u32,
+    min_votes: u32,
+    min_score: u32,
+    min_prominence: u32,
+) -> WangMatchConfig
+    ensures { λ r. ⌜ r ≡ configOf tolerance «min_votes» «min_score» «min_prominence» ⌝ }
+{
+    WangMatchConfig {
+        offset_tolerance_frames: tolerance,
+        min_votes,
+        min_score: floats::f32_from_bits(min_score),
+        min_prominence: floats::f32_from_bits(min_prominence),
+    }
 }
 
 // What every candidate of a query is judged with: settings, the query's rate, its largest anchor, how many hashes it has.
@@ -37,12 +56,6 @@ pub struct WangQuery {
 pub enum Verdict {
     Barred,
     Passed(MatchResult),
-}
-
-fn wide(x: u32) -> u64
-    ensures { λ r. ⌜ (r ≡ x) × (r < 2 ^ 32) ⌝ }
-{
-    x as u64
 }
 
 // The sweep over the n bins from word `at` on, from -q_max to r_max.
@@ -73,8 +86,8 @@ fn score_at(s: &[i64], a: usize, g: usize, q: WangQuery, centre: i64) -> f32
     ensures { λ r. ⌜ r ≡ scoreOf (distinct (countsIn (q .«q_max») (now (s .entry)) a g) (q .cfg .«offset_tolerance_frames») centre (q .«q_len»)) (q .«q_len») ⌝ }
 {
     let cfg = q.cfg;
-    let x = above_low(centre, wide(q.q_max));
-    let n = bins::distinct_positions(s, a, g, wide(cfg.offset_tolerance_frames), x, q.q_len);
+    let x = above_low(centre, maps::wide(q.q_max));
+    let n = bins::distinct_positions(s, a, g, maps::wide(cfg.offset_tolerance_frames), x, q.q_len);
     matching::score(n, q.q_len as u64)
 }
 
@@ -101,6 +114,13 @@ pub fn result(
     }
 }
 
+// Steps 1 and 2: whether a candidate's rate agrees with the query's, and whether its votes are enough.
+pub fn admitted(rate: f32, fps: f32, min_votes: u32, votes: usize) -> bool
+    ensures { λ r. ⌜ r ≡ admits rate fps «min_votes» votes ⌝ }
+{
+    matching::frames_per_sec_compatible(rate, fps) & (maps::wide(min_votes) <= votes as u64)
+}
+
 // Steps 3 and 4, of a candidate whose n bins stand from word `at` on.
 fn weigh(
     s: &[i64],
@@ -116,11 +136,11 @@ fn weigh(
     ensures { λ r. ⌜ r ≡ verdictOf (passing (peakGates (askedOf q) (atPeak (seenIn q «r_max» (now (s .entry)) a g))) (resultOf fps (seenIn q «r_max» (now (s .entry)) a g))) ⌝ }
 {
     let cfg = q.cfg;
-    let low = wide(q.q_max);
-    let high = wide(r_max);
-    let peak = peak_of(s, at, n, wide(cfg.offset_tolerance_frames), low, high);
+    let low = maps::wide(q.q_max);
+    let high = maps::wide(r_max);
+    let peak = peak_of(s, at, n, maps::wide(cfg.offset_tolerance_frames), low, high);
     let votes = peak.votes;
-    if votes < wide(cfg.min_votes) {
+    if votes < maps::wide(cfg.min_votes) {
         return Verdict::Barred;
     }
     let prominence = matching::wang_prominence(votes, peak.total, low + high + 1);
@@ -150,12 +170,15 @@ pub fn judge(
 {
     let cfg = q.cfg;
     let fps = floats::f32_from_bits(rate);
-    if !matching::frames_per_sec_compatible(q.frames_per_sec, fps) {
+    if !admitted(q.frames_per_sec, fps, cfg.min_votes, g) {
         return Verdict::Barred;
     }
-    if (g as u64) < wide(cfg.min_votes) {
-        return Verdict::Barred;
-    }
-    let n = bins::count_sorted(s, a, g, at, wide(q.q_max));
+    let form = Form {
+        low: 0,
+        bits: 11,
+        size: 33,
+        scaled: false,
+    };
+    let n = bins::count_sorted(s, a, g, at, form, maps::wide(q.q_max));
     weigh(s, a, g, at, n, q, fps, r_max)
 }

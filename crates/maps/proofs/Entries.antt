@@ -85,6 +85,22 @@ module _ (ps : List ℕ) (w : ℕ) where
       go (inr a) b = absurd (omega (arith, s .below (firstAt ps w p key) lo a, f .above (firstAt ps w p key) (omega arith) (omega (arith, s .within))))
       go (inl a) (inr b) = absurd (omega (arith, f .below r (omega arith) b, s .above r (omega arith) (omega arith)))
 
+  -- the first entry at a key stands after an entry below the key, and not after one at the key or above
+  module _ (p key at : ℕ) (t : keysAscend ps w p ≡ true) (h : at < p) where
+    pub first-after : keyAt ps w at < key → at < firstAt ps w p key
+    first-after k = go (le-or-lt (firstAt ps w p key) at)
+      where
+        go : (firstAt ps w p key ≤ at) ⊎ (at < firstAt ps w p key) → at < firstAt ps w p key
+        go (inl l) = absurd (omega (arith, first-splits p key t .above at l h))
+        go (inr l) = l
+
+    pub first-upto : key ≤ keyAt ps w at → firstAt ps w p key ≤ at
+    first-upto k = go (le-or-lt (firstAt ps w p key) at)
+      where
+        go : (firstAt ps w p key ≤ at) ⊎ (at < firstAt ps w p key) → firstAt ps w p key ≤ at
+        go (inl l) = l
+        go (inr l) = absurd (omega (arith, first-splits p key t .below at (omega arith) l))
+
   -- the first entry at a key comes no later than the first above it
   pub first-le : (p key : ℕ) → keysAscend ps w p ≡ true → firstAt ps w p key ≤ firstAt ps w p (key + 1)
   first-le p key t =

@@ -1,7 +1,7 @@
 // Sorted slices: the first entry at a key, the part under one key, and words of scratch.
 ghost use mathlib.Core.Path.{_≡_};
 ghost use mathlib.Core.Bool.{true};
-ghost use Prim.Native.Nat.{_*_, _-_, _≤_, _<_, _^_};
+ghost use Prim.Native.Nat.{_+_, _*_, _-_, _≤_, _<_, _^_};
 ghost use lib.IntN.{pos};
 ghost use lib.ListN.{length, getD, take, drop, set, replicate};
 ghost use Rattle.lists.specs.Lists.{flat};
@@ -10,8 +10,9 @@ ghost use Rattle.lists.specs.Keys.{under};
 ghost use Rattle.maps.specs.Words.{natOf};
 ghost use Rattle.maps.specs.Entries.{firstAt, Split};
 
-fn wide(x: u32) -> u64
-    ensures { λ r. ⌜ r ≡ x ⌝ }
+// A word as a wider number.
+pub fn wide(x: u32) -> u64
+    ensures { λ r. ⌜ (r ≡ x) × (r < 2 ^ 32) ⌝ }
 {
     x as u64
 }
@@ -92,14 +93,29 @@ fn between(s: &[u32], a: usize, e: usize) -> &[u32]
     &s[a..e]
 }
 
-// The postings under a key: a part that starts wherever the key begins.
-pub fn postings_of(posts: &[u32], w: usize, p: usize, key: u32) -> &[u32]
-    requires { ⌜ (1 ≤ w) × (w * p ≤ length (now posts)) × (keysAscend (now posts) w p ≡ true) ⌝ }
+// Where the entries of a key end, of which the first stands at a, or would.
+fn end_from(posts: &[u32], w: usize, p: usize, a: usize, key: u32) -> usize
+    requires { ⌜ (1 ≤ w) × (w * p ≤ length (now posts)) × (keysAscend (now posts) w p ≡ true) × (a ≡ firstAt (now posts) w p key) ⌝ }
+    ensures { λ r. ⌜ r ≡ firstAt (now (posts .entry)) w p (key + 1) ⌝ }
+{
+    let mut e = a;
+    while e < p {
+        if key_at(posts, w, e) != key {
+            return e;
+        }
+        e += 1;
+    }
+    e
+}
+
+// The postings under a key: a part that starts wherever the key begins, which is at entry a.
+pub fn part_at(posts: &[u32], w: usize, p: usize, a: u32, key: u32) -> &[u32]
+    requires { ⌜ (1 ≤ w) × (w * p ≤ length (now posts)) × (keysAscend (now posts) w p ≡ true) × (a ≡ firstAt (now posts) w p key) ⌝ }
     ensures { λ r. ⌜ now r ≡ flat (under keyOf key (entries w p (now (posts .entry)))) ⌝ }
 {
-    let a = first_at(posts, w, p, wide(key));
-    let e = first_from(posts, w, p, a, wide(key) + 1);
-    between(posts, w * a, w * e)
+    let from = a as usize;
+    let e = end_from(posts, w, p, from, key);
+    between(posts, w * from, w * e)
 }
 
 // The natural number in a word, 0 where the word is negative.

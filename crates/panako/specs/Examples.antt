@@ -36,7 +36,8 @@ use Rattle.panako_vote.specs.Settings.{normalised, withinLimits}
 use Rattle.panako_vote.specs.Grids.{gridOf}
 use Rattle.panako_vote.specs.Votes.{binAt, voteAt, voteOn}
 use Rattle.judging.specs.Gates.{peakGates, gates, resultAt}
-use Rattle.panako_judging.specs.Judge.{occupied, binsOf, seenOf, scaleOf, judgeBy}
+use Rattle.bins.specs.Codes.{occupied, binsOf}
+use Rattle.panako_judging.specs.Judge.{seenOf, scaleOf, judgeBy}
 use Rattle.panako_judging.specs.Scheme.{beyond, votesOf, judge, panako}
 
 -- ---- the calls

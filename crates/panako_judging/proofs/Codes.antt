@@ -10,10 +10,11 @@ use borrow.Author.Tests.{lt-ltb, le-ltb}
 use mir.Syntax.{w64}
 use mir.Val.{Fits, SFits}
 use Rattle.bins.specs.Votes.{above}
+use Rattle.bins.specs.Codes.{codeIn}
 use Rattle.panako_vote.specs.Votes.{InRange}
 use Rattle.panako_vote.proofs.Bounds.{shifted}
-use Rattle.panako_judging.specs.Judge.{Vote, middle, codeOf, voteAt}
-use Rattle.panako_judging.specs.Candidates.{lowest, wordOf, recordingOf, codeIn, voteIn}
+use Rattle.panako_judging.specs.Judge.{Vote, middle, codeOf, voteAt, panakoForm}
+use Rattle.panako_judging.specs.Candidates.{lowest, wordOf, recordingOf, voteIn}
 
 -- ---- an offset's place
 
@@ -82,7 +83,7 @@ module _ (id : ℕ) (v : Vote) (low : v .bin < 2 ^ 12) (near : InRange (v .offse
   pub packed-recording : recordingOf (wordOf id v) ≡ id
   packed-recording = omega (arith, above-packed (id * 2 ^ 52 + codeOf v), code-small v low near)
 
-  packed-code : codeIn (wordOf id v) ≡ codeOf v
+  packed-code : codeIn panakoForm (wordOf id v) ≡ codeOf v
   packed-code = omega (arith, above-packed (id * 2 ^ 52 + codeOf v), code-small v low near)
 
   pub packed-vote : voteIn (wordOf id v) ≡ v

@@ -1,9 +1,7 @@
 -- Laws that belong to no one function.
 pub mod Codes
 pub mod Votes
-pub mod Occupied
 pub mod Counts
 pub mod Binned
-pub mod Binning
 pub mod Words
 pub mod Gates

@@ -20,12 +20,13 @@ use Rattle.matching.specs.declared.MatchResult.{MatchResult}
 use Rattle.consolidate.specs.Runs.{firstGreatest}
 use Rattle.consolidate.specs.Modes.{mode}
 use Rattle.hough.specs.Hough.{houghSum, houghPeak, merged, peakOffset, farSum, farCount, prominence}
+use Rattle.bins.specs.Codes.{occupied, binsOf}
 use Rattle.panako_vote.specs.Settings.{normalised, withinLimits}
 use Rattle.panako_vote.specs.Grids.{gridOf}
 use Rattle.panako_vote.specs.Votes.{binAt, voteAt, voteOn}
 use Rattle.model.specs.Fingerprints.{Hash}
 use Rattle.judging.specs.Gates.{peakGates, gates, resultAt}
-use Rattle.panako_judging.specs.Judge.{Vote, occupied, binsOf, seenOf, scaleOf, judgeBy}
+use Rattle.panako_judging.specs.Judge.{Vote, seenOf, scaleOf, judgeBy}
 use Rattle.panako_judging.specs.Scheme.{Ask, beyond, votesOf, judge}
 
 -- what the result of a candidate says: votes, score bits, prominence bits, frames, ms, time scale bits

@@ -1,14 +1,14 @@
 -- Panako's judge: steps 1 to 4 of document 01's "Each candidate", from a candidate's votes, its rate and the query. The votes count by
 -- the occupied bins only, so their order can't matter (proofs/Counts.antt). Definitions only. Assumes nothing.
-use mathlib.Core.List.{List, [], _∷_, map}
+use mathlib.Core.Bool.{true}
+use mathlib.Core.List.{List, map}
 use mathlib.Core.Option.{Option}
 use Prim.Native.Nat.{ℕ, _+_, _*_, _/_, _%_, _^_}
 use lib.IntN.{ℤ, pos, negℤ, natAbs, _+ℤ_}
 use lib.ListN.{length}
-use lib.Dec.{eqb}
 use lib.Ieee.{Float, binary32, ofBits}
-use Rattle.lists.specs.Lists.{flat, insertKey}
-use Rattle.maps.specs.Lists.{count}
+use Rattle.bins.specs.Codes as bins
+use Rattle.bins.specs.declared.Form.{Form}
 use Rattle.matching.specs.Scales.{binCentre, timeScale}
 use Rattle.matching.specs.Scores.{scoreOf}
 use Rattle.matching.specs.declared.MatchResult.{MatchResult}
@@ -38,25 +38,16 @@ codeOf v = v .bin * 2 ^ 40 + natAbs (v .offset +ℤ pos middle)
 abbrev pub voteAt : ℕ → Vote
 voteAt k = record { bin = k / 2 ^ 40; offset = negℤ (pos middle) +ℤ pos (k % 2 ^ 40) }
 
--- the codes of votes, each once, ascending
-unfoldable pub occupied : List Vote → List ℕ
-occupied [] = []
-occupied (v ∷ vs) = insertKey (codeOf v) (occupied vs)
+-- a vote's word counts from −2^63 and is an id above 52 bits of code
+abbrev pub panakoForm : Form
+panakoForm = record { low = 2 ^ 63; bits = 0; size = 52; scaled = true }
 
--- the votes with a code
-abbrev pub votesAt : List Vote → ℕ → ℕ
-votesAt vs k = count (λ v. eqb (codeOf v) k) vs
-
--- a bin as `hough` has it: its scale bin, its offset, its count
-abbrev pub binWords : List Vote → ℕ → List ℤ
-binWords vs k = pos (voteAt k .bin) ∷ voteAt k .offset ∷ pos (votesAt vs k) ∷ []
-
--- all of them, and how many they are
-unfoldable pub binsOf : List Vote → List ℤ
-binsOf vs = flat (map (binWords vs) (occupied vs))
+-- the occupied bins' words, as `hough` has them, and how many bins there are
+abbrev pub binsOf : List Vote → List ℤ
+binsOf vs = bins.binsOf panakoForm middle (map codeOf vs)
 
 abbrev pub binCount : List Vote → ℕ
-binCount vs = length (occupied vs)
+binCount vs = length (bins.occupied (map codeOf vs))
 
 -- ── the judge ──
 

@@ -1,22 +1,23 @@
 // One candidate of a Panako query, judged from its sorted votes: the body of the loop over candidates in
 // `PanakoIndex::query` of the reference.
 ghost use mathlib.Core.Path.{_≡_};
-ghost use Prim.Native.Nat.{ℕ, _+_, _*_, _/_, _%_, _≤_, _<_, _^_};
-ghost use lib.IntN.{pos, negℤ, natAbs, _+ℤ_, _-ℤ_};
-ghost use lib.ListN.{length, getD, set, take, drop};
+ghost use Prim.Native.Nat.{_+_, _*_, _≤_, _<_, _^_};
+ghost use lib.IntN.{pos, natAbs, _+ℤ_, _-ℤ_};
+ghost use lib.ListN.{length, set};
 ghost use Rattle.maps.specs.Words.{SameOutside};
 ghost use Rattle.judging.specs.Gates.{peakGates, resultAt, passing, verdictOf};
 ghost use Rattle.hough.specs.Hough.{scale, peakOffset};
 ghost use Rattle.hough.specs.Limits.{Bins};
 ghost use Rattle.panako_vote.specs.Votes.{InRange};
-ghost use Rattle.panako_judging.specs.Judge.{middle, codeOf, voteAt, binsOf, binCount, seenOf, askedOf, atPeak, scaleOf, resultOf, judgeBy};
-ghost use Rattle.panako_judging.specs.Candidates.{lowest, wordOf, codeIn, votesIn, Group, Candidate};
+ghost use Rattle.panako_judging.specs.Judge.{middle, seenOf, askedOf, atPeak, scaleOf, resultOf, judgeBy};
+ghost use Rattle.panako_judging.specs.Candidates.{lowest, wordOf, votesIn, Candidate};
+use bins::Form;
 use hough::Peak;
 use judging::Verdict;
 use matching::MatchResult;
 use panako_vote::PanakoMatchConfig;
 
-const LOWEST: u64 = 0x8000_0000_0000_0000;
+pub const LOWEST: u64 = 0x8000_0000_0000_0000;
 
 const MIDDLE: i64 = 0x80_0000_0000;
 
@@ -25,12 +26,6 @@ pub struct PanakoQuery {
     pub cfg: PanakoMatchConfig,
     pub frames_per_sec: f32,
     pub q_len: usize,
-}
-
-fn wide(x: u32) -> u64
-    ensures { λ r. ⌜ (r ≡ x) × (r < 2 ^ 32) ⌝ }
-{
-    x as u64
 }
 
 // ---- a vote as a word
@@ -68,46 +63,7 @@ pub fn put_vote(s: &mut [i64], i: usize, id: u64, bin: u32, offset: i64)
     requires { ⌜ (i < length (now s)) × (id < 2 ^ 12) × (bin < 2 ^ 12) × InRange offset ⌝ }
     ensures { λ _. ⌜ now (s .exit) ≡ set (now (s .entry)) i (wordOf id (record { bin = bin; offset = offset })) ⌝ }
 {
-    s[i] = lowered(pack(id, wide(bin), place_of(offset)));
-}
-
-// The code of the vote in word i.
-fn code_at(s: &[i64], i: usize) -> u64
-    requires { ⌜ i < length (now s) ⌝ }
-    ensures { λ r. ⌜ (r ≡ codeIn (getD (now (s .entry)) i (pos 0))) × (r < 2 ^ 52) ⌝ }
-{
-    bins::word_above(s, i, LOWEST) % 0x10_0000_0000_0000
-}
-
-// ---- bins
-
-// A bin: the scale bin and the offset of a code, and its count.
-fn put_bin(s: &mut [i64], j: usize, code: u64, count: u64)
-    requires { ⌜ (j + 2 < length (now s)) × (code < 2 ^ 52) × (count < 2 ^ 63) ⌝ }
-    ensures { λ _. ⌜ now (s .exit) ≡ set (set (set (now (s .entry)) j (pos (voteAt code .bin))) (j + 1) (voteAt code .offset)) (j + 2) (pos count) ⌝ }
-{
-    maps::put_word(s, j, code >> 40);
-    let p = (code % 0x100_0000_0000) as i64;
-    s[j + 1] = p - MIDDLE;
-    maps::put_word(s, j + 2, count);
-}
-
-// The bins of the g votes from word a on, written from word `at` on. Yields how many bins there are.
-fn count_sorted(s: &mut [i64], a: usize, g: usize, at: usize) -> usize
-    requires { ⌜ Group (now s) a g at ⌝ }
-    ensures { λ n. ⌜ (n ≡ binCount (votesIn (now (s .entry)) a g)) × (n ≤ g) × (take (3 * n) (drop at (now (s .exit))) ≡ binsOf (votesIn (now (s .entry)) a g))
-        × SameOutside (now (s .entry)) (now (s .exit)) at (at + 3 * n) ⌝ }
-{
-    let mut i = 0;
-    let mut n = 0;
-    while i < g {
-        let x = code_at(s, a + i);
-        let r = bins::run_end(s, a + i, a + g, LOWEST, 0) - a;
-        put_bin(s, at + 3 * n, x, (r - i) as u64);
-        i = r;
-        n += 1;
-    }
-    n
+    s[i] = lowered(pack(id, maps::wide(bin), place_of(offset)));
 }
 
 // ---- the judge
@@ -136,7 +92,7 @@ fn result(
         (peakOffset (now (s .entry)) n (q .cfg .«offset_tolerance_frames») (p .at)) fps (scaleOf (q .cfg) (scale (now (s .entry)) (p .at))) ⌝ }
 {
     let cfg = q.cfg;
-    let frames = hough::panako_peak_offset(s, n, wide(cfg.offset_tolerance_frames), p.at);
+    let frames = hough::panako_peak_offset(s, n, maps::wide(cfg.offset_tolerance_frames), p.at);
     let scale = scale_of(cfg, hough::scale_at(s, n, p.at));
     judging::result(score, p.votes, prominence, frames, fps, scale)
 }
@@ -147,10 +103,10 @@ fn weigh(s: &[i64], n: usize, q: PanakoQuery, fps: f32) -> Verdict
     ensures { λ r. ⌜ r ≡ verdictOf (passing (peakGates (askedOf q) (atPeak (seenOf q (now (s .entry)) n))) (resultOf q fps (seenOf q (now (s .entry)) n))) ⌝ }
 {
     let cfg = q.cfg;
-    let tol = wide(cfg.offset_tolerance_frames);
+    let tol = maps::wide(cfg.offset_tolerance_frames);
     let p = hough::panako_hough_peak(s, n, tol);
     let votes = p.votes;
-    if votes < wide(cfg.min_votes) {
+    if votes < maps::wide(cfg.min_votes) {
         return Verdict::Barred;
     }
     let prominence = hough::panako_prominence(s, n, tol, p);
@@ -172,13 +128,16 @@ pub fn judge(s: &mut [i64], a: usize, g: usize, at: usize, q: PanakoQuery, rate:
 {
     let cfg = q.cfg;
     let fps = floats::f32_from_bits(rate);
-    if !matching::frames_per_sec_compatible(q.frames_per_sec, fps) {
+    if !judging::admitted(q.frames_per_sec, fps, cfg.min_votes, g) {
         return Verdict::Barred;
     }
-    if (g as u64) < wide(cfg.min_votes) {
-        return Verdict::Barred;
-    }
-    let n = count_sorted(s, a, g, at);
+    let form = Form {
+        low: LOWEST,
+        bits: 0,
+        size: 52,
+        scaled: true,
+    };
+    let n = bins::count_sorted(s, a, g, at, form, MIDDLE as u64);
     let e = at + 3 * n;
     weigh(&s[at..e], n, q, fps)
 }

@@ -63,7 +63,7 @@ module _ (m : Words) (a : Ask) (hs : List ℕ) (s : List ℤ) (r : ℕ) (e : r �
     searchable = record {
       limits = record { rows = sound.rows-there 5 (omega arith) m (P .is-listed) (P .is-sound); many = many; tolerance = A .tolerance };
       packable = record {
-        walk = record { postings = sound.postings-there 5 (omega arith) m (P .is-listed) (P .is-sound); ascend = sound.F 5 (omega arith) m (P .is-listed) (P .is-sound) .keys; hashes = rw (sound.hashes-long 5 hs) (omega arith) };
+        walk = sound.sought 5 (omega arith) m (P .is-listed) (P .is-sound) hs (P .formed);
         ids = all-imp Live (λ x. getD x 1 0 < 2 ^ 12) (λ x h. omega (arith, h .0, many)) es live;
         grid = grid;
       };

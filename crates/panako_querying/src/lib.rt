@@ -6,17 +6,17 @@ ghost use Rattle.model.specs.Fingerprints.{hashesOf};
 ghost use Rattle.model.specs.Run.{runQuery};
 ghost use Rattle.soundness.specs.Scan.{words};
 ghost use Rattle.ranking.specs.Answers.{bestSoFar, findingAnswer, scratchAfter};
+ghost use Rattle.seeking.specs.Starts.{Starts};
 ghost use Rattle.panako_vote.specs.Grids.{gridOf};
 ghost use Rattle.panako_judging.specs.Scheme.{queryOf, panako};
 ghost use Rattle.panako_querying.specs.Asked.{asked};
 ghost use Rattle.panako_querying.specs.Candidates.{bestIn, wordsIn, answerIn, Votes, Posted};
+use panako_judging::LOWEST;
 use panako_judging::PanakoQuery;
 use panako_vote::PanakoMatchConfig;
 use panako_vote::ScaleGrid;
 use ranking::Best;
 use ranking::Finding;
-
-const LOWEST: u64 = 0x8000_0000_0000_0000;
 
 // The best candidate by the first v words, which are votes in ascending order. Bins are written from word 2 * v on.
 fn best_of(s: &mut [i64], v: usize, refs: &[u32], q: PanakoQuery) -> Best
@@ -39,21 +39,24 @@ fn best_of(s: &mut [i64], v: usize, refs: &[u32], q: PanakoQuery) -> Best
     best
 }
 
-// The best candidate by the votes of the query's hashes, which are gathered and sorted in the scratch. `g` is the scale grid.
+// The best candidate by the votes of the query's hashes, which are gathered and sorted in the scratch. `starts` says where the postings of
+// each hash begin, `g` is the scale grid.
 fn best_candidate(
     s: &mut [i64],
     refs: &[u32],
     posts: &[u32],
     p: usize,
     hashes: &[u32],
+    starts: &[u32; 2048],
     q: PanakoQuery,
     g: ScaleGrid,
 ) -> Best
     requires { ⌜ Posted (now refs) (now posts) (now hashes) q × (p ≡ getD (now refs) 2 0) × (g ≡ gridOf (q .cfg))
-        × (length (wordsIn q (now refs) (now posts) (now hashes)) ≤ 1000000) × (5 * length (wordsIn q (now refs) (now posts) (now hashes)) ≤ length (now s)) ⌝ }
+        × (length (wordsIn q (now refs) (now posts) (now hashes)) ≤ 1000000) × (5 * length (wordsIn q (now refs) (now posts) (now hashes)) ≤ length (now s))
+        × Starts (now posts) 5 p (now hashes) 4 (q .«q_len») (now starts) ⌝ }
     ensures { λ r. ⌜ bestSoFar r ≡ bestIn q (now (refs .entry)) (wordsIn q (now (refs .entry)) (now (posts .entry)) (now (hashes .entry))) ⌝ }
 {
-    let v = panako_voting::gather(s, posts, p, hashes, q.q_len, g);
+    let v = panako_voting::gather(s, posts, p, hashes, q.q_len, starts, g);
     sorting::sort_words(s, v);
     best_of(s, v, refs, q)
 }
@@ -67,10 +70,12 @@ fn search(s: &mut [i64], refs: &[u32], posts: &[u32], hashes: &[u32], q: PanakoQ
     let room = s.len() / 12;
     let p = rows::header(refs).postings;
     let g = panako_vote::scale_grid(q.cfg);
-    if room < panako_voting::count_votes(posts, p, hashes, q.q_len, g, room) {
+    let mut starts = [0u32; 2048];
+    seeking::seek(&mut starts, posts, 5, p, hashes, 4, q.q_len);
+    if room < panako_voting::count_votes(posts, p, hashes, q.q_len, &starts, g, room) {
         return Finding::Refused(8);
     }
-    let best = best_candidate(s, refs, posts, p, hashes, q, g);
+    let best = best_candidate(s, refs, posts, p, hashes, &starts, q, g);
     maps::zero_words(s);
     ranking::answer_of(best)
 }

@@ -5,10 +5,11 @@ use Prim.Native.Nat.{ℕ}
 use lib.IntN.{ℤ}
 use lib.ListN.{length, getD}
 use Rattle.lists.specs.Entries.{entries}
+use Rattle.seeking.specs.Starts.{Sought}
 use Rattle.panako_vote.specs.Grids.{Limited}
 use Rattle.panako_vote.specs.Votes.{voteOn}
 use Rattle.panako_vote.specs.declared.ScaleGrid.{ScaleGrid}
-use Rattle.candidates.specs.Gathered.{wordsBy, Pairing, wordsFrom, Ids, Walk}
+use Rattle.candidates.specs.Gathered.{wordsBy, Pairing, wordsFrom, Ids}
 use Rattle.panako_judging.specs.Judge.{Vote}
 use Rattle.panako_judging.specs.Scheme.{asList}
 use Rattle.panako_judging.specs.Candidates.{wordOf}
@@ -36,6 +37,6 @@ wordsOn g qa qc es = wordsBy (wordsWith g qa qc) es
 
 -- what the gathering asks: each part of a vote has its bits
 pub record Packable (ps : List ℕ) (p : ℕ) (hs : List ℕ) (m : ℕ) (g : ScaleGrid) : Type 0 where
-  pub walk : Walk 5 ps p hs m
+  pub walk : Sought ps 5 p hs 4 m
   pub ids : Ids (entries 5 p ps)
   pub grid : Limited g

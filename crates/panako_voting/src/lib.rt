@@ -6,17 +6,13 @@ ghost use Prim.Native.Nat.{_+_, _*_, _≤_, _<_, _^_, min};
 ghost use lib.ListN.{length, getD, take};
 ghost use Rattle.lists.specs.Keys.{under};
 ghost use Rattle.lists.specs.Entries.{entries, entryAt, keyOf, keysAscend};
+ghost use Rattle.maps.specs.Entries.{firstAt};
+ghost use Rattle.seeking.specs.Starts.{Starts, Sought};
 ghost use Rattle.panako_vote.specs.Grids.{Limited};
-ghost use Rattle.candidates.specs.Gathered.{Ids, Walk};
-ghost use Rattle.panako_voting.specs.Gathered.{votesWith, wordsWith, words, voteCount, wordsOn, Packable};
+ghost use Rattle.candidates.specs.Gathered.{Ids};
+ghost use Rattle.panako_voting.specs.Gathered.{wordsWith, words, voteCount, wordsOn, Packable};
 use panako_vote::ScaleGrid;
 use panako_vote::Vote;
-
-fn wide(x: u32) -> u64
-    ensures { λ r. ⌜ (r ≡ x) × (r < 2 ^ 32) ⌝ }
-{
-    x as u64
-}
 
 // How many votes a query hash at qa .. qc has with posting j of a part: none or one.
 fn pair_count(g: ScaleGrid, qa: u32, qc: u32, part: &[u32], j: usize) -> usize
@@ -30,16 +26,18 @@ fn pair_count(g: ScaleGrid, qa: u32, qc: u32, part: &[u32], j: usize) -> usize
     0
 }
 
-// The votes of m query hashes with p postings. They are held at one more than the room: the counting ends at the vote that passes it.
+// The votes of m query hashes with p postings; `starts` says where those of each hash begin. They are held at one more than the room: the
+// counting ends at the vote that passes it.
 pub fn count_votes(
     posts: &[u32],
     p: usize,
     hashes: &[u32],
     m: usize,
+    starts: &[u32; 2048],
     g: ScaleGrid,
     room: usize,
 ) -> usize
-    requires { ⌜ Walk 5 (now posts) p (now hashes) m × (room ≤ 1000000) ⌝ }
+    requires { ⌜ Sought (now posts) 5 p (now hashes) 4 m × Starts (now posts) 5 p (now hashes) 4 m (now starts) × (room ≤ 1000000) ⌝ }
     ensures { λ r. ⌜ r ≡ min (room + 1) (voteCount g (entries 5 p (now (posts .entry))) (entries 4 m (now (hashes .entry)))) ⌝ }
 {
     let mut v = 0;
@@ -48,7 +46,7 @@ pub fn count_votes(
         let k = 4 * i;
         let qa = hashes[k + 1];
         let qc = hashes[k + 3];
-        let part = maps::postings_of(posts, 5, p, hashes[k]);
+        let part = maps::part_at(posts, 5, p, starts[i], hashes[k]);
         let n = part.len() / 5;
         let mut j = 0;
         while j < n {
@@ -78,7 +76,7 @@ fn put_pair(
         × (take r (now (s .exit)) ≡ take at (now (s .entry)) ++ wordsWith g qa qc (entryAt 5 j (now (part .entry)))) ⌝ }
 {
     let k = 5 * j;
-    let id = wide(part[k + 1]);
+    let id = maps::wide(part[k + 1]);
     match panako_vote::pair_vote(g, qa, qc, part[k + 2], part[k + 4]) {
         Vote::Nothing => at,
         Vote::At { bin, offset } => {
@@ -111,23 +109,24 @@ fn gather_part(
     v
 }
 
-// The same with all of p postings that stand under a key.
+// The same with all of p postings that stand under a key, which begins at `start`.
 fn gather_key(
     s: &mut [i64],
     at: usize,
     posts: &[u32],
     p: usize,
+    start: u32,
     key: u32,
     g: ScaleGrid,
     qa: u32,
     qc: u32,
 ) -> usize
-    requires { ⌜ (5 * p ≤ length (now posts)) × (keysAscend (now posts) 5 p ≡ true) × Ids (entries 5 p (now posts)) × Limited g
+    requires { ⌜ (5 * p ≤ length (now posts)) × (keysAscend (now posts) 5 p ≡ true) × (start ≡ firstAt (now posts) 5 p key) × Ids (entries 5 p (now posts)) × Limited g
         × (at + length (wordsOn g qa qc (under keyOf key (entries 5 p (now posts)))) ≤ length (now s)) ⌝ }
     ensures { λ r. ⌜ (r ≡ at + length (wordsOn g qa qc (under keyOf key (entries 5 p (now (posts .entry))))))
         × (take r (now (s .exit)) ≡ take at (now (s .entry)) ++ wordsOn g qa qc (under keyOf key (entries 5 p (now (posts .entry))))) ⌝ }
 {
-    let part = maps::postings_of(posts, 5, p, key);
+    let part = maps::part_at(posts, 5, p, start, key);
     let n = part.len() / 5;
     gather_part(s, at, part, n, g, qa, qc)
 }
@@ -139,9 +138,10 @@ pub fn gather(
     p: usize,
     hashes: &[u32],
     m: usize,
+    starts: &[u32; 2048],
     g: ScaleGrid,
 ) -> usize
-    requires { ⌜ Packable (now posts) p (now hashes) m g × (voteCount g (entries 5 p (now posts)) (entries 4 m (now hashes)) ≤ length (now s)) ⌝ }
+    requires { ⌜ Packable (now posts) p (now hashes) m g × Starts (now posts) 5 p (now hashes) 4 m (now starts) × (voteCount g (entries 5 p (now posts)) (entries 4 m (now hashes)) ≤ length (now s)) ⌝ }
     ensures { λ r. ⌜ (r ≡ voteCount g (entries 5 p (now (posts .entry))) (entries 4 m (now (hashes .entry))))
         × (take r (now (s .exit)) ≡ words g (entries 5 p (now (posts .entry))) (entries 4 m (now (hashes .entry)))) ⌝ }
 {
@@ -149,7 +149,17 @@ pub fn gather(
     let mut i = 0;
     while i < m {
         let k = 4 * i;
-        v = gather_key(s, v, posts, p, hashes[k], g, hashes[k + 1], hashes[k + 3]);
+        v = gather_key(
+            s,
+            v,
+            posts,
+            p,
+            starts[i],
+            hashes[k],
+            g,
+            hashes[k + 1],
+            hashes[k + 3],
+        );
         i += 1;
     }
     v

@@ -6,12 +6,6 @@ ghost use lib.Dec.{eqb};
 ghost use Rattle.lists.specs.Lists.{member};
 ghost use Rattle.postings.specs.Retain.{moved, cleared, Within, Names, Until, staying, retained};
 
-fn wide(x: u32) -> u64
-    ensures { λ r. ⌜ r ≡ x ⌝ }
-{
-    x as u64
-}
-
 // Word i of a slice.
 pub fn at(s: &[u32], i: usize) -> u32
     requires { ⌜ i < length (now s) ⌝ }
@@ -61,7 +55,7 @@ fn among(xs: &[u32], n: usize, x: u32) -> bool
     requires { ⌜ Names n (now xs) ⌝ }
     ensures { λ r. ⌜ r ≡ member x (take n (now (xs .entry))) ⌝ }
 {
-    let j = maps::first_at(xs, 1, n, wide(x));
+    let j = maps::first_at(xs, 1, n, maps::wide(x));
     if n <= j {
         return false;
     }

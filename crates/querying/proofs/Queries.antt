@@ -57,11 +57,10 @@ module _ (m : Words) (a : Ask) (hs : List ℕ) (s : List ℤ) (r : ℕ) (e : r �
 
     pub searchable : Posted (m .references) (m .postings) hs (queryOf a (hashesOf 3 hs))
     searchable = record {
-      limits = record { rows = sound.rows-there 3 (omega arith) m (P .is-listed) (P .is-sound); many = many; tolerance = near; short = short };
+      limits = record { rows = sound.rows-there 3 (omega arith) m (P .is-listed) (P .is-sound); many = many; tolerance = near; short = rw (sound.hashes-long 3 hs) (sound.few-hashes 3 hs (P .formed)) };
       packable = record {
-        walk = record { postings = sound.postings-there 3 (omega arith) m (P .is-listed) (P .is-sound); ascend = sound.F 3 (omega arith) m (P .is-listed) (P .is-sound) .keys; hashes = rw (sound.hashes-long 3 hs) (omega arith) };
+        walk = sound.sought 3 (omega arith) m (P .is-listed) (P .is-sound) hs (P .formed);
         ids = all-imp (Held (m .references)) (λ x. getD x 1 0 < 2 ^ 12) (λ x h. omega (arith, h .0, many)) (postingsIn (m .references) (m .postings)) held;
-        short = short;
         high = top-high hs hash-bits;
         below = λ i lt. top-above hs i (rw (sound.hashes-long 3 hs) at lt);
       };
@@ -70,9 +69,6 @@ module _ (m : Words) (a : Ask) (hs : List ℕ) (s : List ℤ) (r : ℕ) (e : r �
       where
         many : getD (m .references) 0 0 ≤ 4096
         many = sound.rows-few 3 (omega arith) m (P .is-listed) (P .is-sound)
-
-        short : length (hashesOf 3 hs) ≤ 2048
-        short = rw (sound.hashes-long 3 hs) (sound.few-hashes 3 hs (P .formed))
 
         held : All (Held (m .references)) (postingsIn (m .references) (m .postings))
         held = all-entries (Held (m .references)) 3 (getD (m .references) 2 0) (m .postings) (λ i lt.
@@ -96,4 +92,4 @@ module _ (m : Words) (a : Ask) (hs : List ℕ) (s : List ℤ) (r : ℕ) (e : r �
         rights = right-all wang (reading (queryOf a (hashesOf 3 hs))) a (pairWord (largestAnchor (hashesOf 3 hs))) (2 ^ 11) (Low (largestAnchor (hashesOf 3 hs))) Small
             (right a (queryOf a (hashesOf 3 hs)) (searchable .packable .high))
             (postingsIn (m .references) (m .postings)) (small-postings (getD (m .references) 2 0) (m .postings) post-bits)
-            (hashesIn (queryOf a (hashesOf 3 hs)) hs) (low-hashes (length (hashesOf 3 hs)) hs (largestAnchor (hashesOf 3 hs)) (searchable .packable .below)) 0 (omega (arith, length-entries 2 (length (hashesOf 3 hs)) hs, searchable .packable .short))
+            (hashesIn (queryOf a (hashesOf 3 hs)) hs) (low-hashes (length (hashesOf 3 hs)) hs (largestAnchor (hashesOf 3 hs)) (searchable .packable .below)) 0 (omega (arith, length-entries 2 (length (hashesOf 3 hs)) hs, searchable .packable .walk .few))

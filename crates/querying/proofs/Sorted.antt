@@ -35,7 +35,7 @@ module _ (rs ps hs : List ℕ) (q : WangQuery) (P : Posted rs ps hs q) (bits : (
   spanned = words-all (pairWord (q .«q_max»)) (Spanned rs (q .«q_max»)) (2 ^ 11) (Low (q .«q_max»)) (λ e. Held rs e × Small e)
       (λ i h e k L E. (spanned-one rs (q .«q_max») (P .packable .high) i h e k L (E .0) (E .1), tt))
       (postingsIn rs ps) (all-both (Held rs) Small (postingsIn rs ps) (P .held) (small-postings (getD rs 2 0) ps bits))
-      (hashesIn q hs) (low-hashes (q .«q_len») hs (q .«q_max») (P .packable .below)) 0 (omega (arith, length-entries 2 (q .«q_len») hs, P .packable .short))
+      (hashesIn q hs) (low-hashes (q .«q_len») hs (q .«q_max») (P .packable .below)) 0 (omega (arith, length-entries 2 (q .«q_len») hs, P .packable .walk .few))
 
   pub sorted-votes : (s : List ℤ) (v : ℕ) → v ≡ length (wordsIn q rs ps hs) → take v s ≡ sortZ (wordsIn q rs ps hs) → v ≤ 1000000 → 4 * v ≤ length s → Votes rs s v q
   sorted-votes s v e sorted few room = record { limits = P .limits; words = sorting.sorted-votes (wordsIn q rs ps hs) s v e sorted (Spanned rs (q .«q_max»)) 4 spanned few room }

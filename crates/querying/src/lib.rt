@@ -1,10 +1,11 @@
 // The query of WangIndex: votes are counted against the scratch, gathered, sorted, and judged candidate by candidate.
 ghost use mathlib.Core.Path.{_≡_};
-ghost use Prim.Native.Nat.{_*_, _/_, _≤_, _<_, _^_};
+ghost use Prim.Native.Nat.{_*_, _/_, _≤_};
 ghost use lib.ListN.{length, getD, take};
 ghost use Rattle.model.specs.Fingerprints.{hashesOf};
 ghost use Rattle.model.specs.Run.{runQuery};
 ghost use Rattle.soundness.specs.Scan.{words};
+ghost use Rattle.seeking.specs.Starts.{Starts};
 ghost use Rattle.ranking.specs.Answers.{bestSoFar, findingAnswer, scratchAfter};
 ghost use Rattle.judging.specs.Scheme.{queryOf, wang};
 ghost use Rattle.querying.specs.Asked.{asked};
@@ -13,12 +14,6 @@ use judging::WangMatchConfig;
 use judging::WangQuery;
 use ranking::Best;
 use ranking::Finding;
-
-fn wide(x: u32) -> u64
-    ensures { λ r. ⌜ (r ≡ x) × (r < 2 ^ 32) ⌝ }
-{
-    x as u64
-}
 
 // The best candidate by the first v words, which are votes in ascending order. Bins are written from word 2 * v on.
 fn best_of(s: &mut [i64], v: usize, refs: &[u32], q: WangQuery) -> Best
@@ -43,20 +38,22 @@ fn best_of(s: &mut [i64], v: usize, refs: &[u32], q: WangQuery) -> Best
     best
 }
 
-// The best candidate by the votes of the query's hashes, which are gathered and sorted in the scratch.
+// The best candidate by the votes of the query's hashes, which are gathered and sorted in the scratch. `starts` says where the postings of
+// each hash begin.
 fn best_candidate(
     s: &mut [i64],
     refs: &[u32],
     posts: &[u32],
     p: usize,
     hashes: &[u32],
+    starts: &[u32; 2048],
     q: WangQuery,
 ) -> Best
     requires { ⌜ Posted (now refs) (now posts) (now hashes) q × (p ≡ getD (now refs) 2 0) × (length (wordsIn q (now refs) (now posts) (now hashes)) ≤ 1000000)
-        × (4 * length (wordsIn q (now refs) (now posts) (now hashes)) ≤ length (now s)) ⌝ }
+        × (4 * length (wordsIn q (now refs) (now posts) (now hashes)) ≤ length (now s)) × Starts (now posts) 3 p (now hashes) 2 (q .«q_len») (now starts) ⌝ }
     ensures { λ r. ⌜ bestSoFar r ≡ bestIn q (now (refs .entry)) (wordsIn q (now (refs .entry)) (now (posts .entry)) (now (hashes .entry))) ⌝ }
 {
-    let v = voting::gather(s, posts, p, hashes, q.q_len, wide(q.q_max));
+    let v = voting::gather(s, posts, p, hashes, q.q_len, starts, maps::wide(q.q_max));
     sorting::sort_words(s, v);
     best_of(s, v, refs, q)
 }
@@ -69,10 +66,12 @@ fn search(s: &mut [i64], refs: &[u32], posts: &[u32], hashes: &[u32], q: WangQue
 {
     let room = s.len() / 6;
     let p = rows::header(refs).postings;
-    if room < voting::count_votes(posts, p, hashes, q.q_len, room) {
+    let mut starts = [0u32; 2048];
+    seeking::seek(&mut starts, posts, 3, p, hashes, 2, q.q_len);
+    if room < voting::count_votes(posts, p, hashes, q.q_len, &starts, room) {
         return Finding::Refused(8);
     }
-    let best = best_candidate(s, refs, posts, p, hashes, q);
+    let best = best_candidate(s, refs, posts, p, hashes, &starts, q);
     maps::zero_words(s);
     ranking::answer_of(best)
 }

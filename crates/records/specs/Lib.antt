@@ -1,4 +1,2 @@
--- One record of a card: its kind, its call, its line.
-pub mod Lines
-pub mod Kinds
+-- The step on one record of a card.
 pub mod Step

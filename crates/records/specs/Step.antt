@@ -8,8 +8,8 @@ use Rattle.model.specs.Words.{Words}
 use Rattle.model.specs.Run.{run}
 use Rattle.judging.specs.Scheme.{wang}
 use Rattle.text.specs.Bytes.{fieldsOf}
-use Rattle.records.specs.Lines.{answerLine}
-use Rattle.records.specs.Kinds.{Kind, kindOf}
+use Rattle.lines.specs.Lines.{answerLine}
+use Rattle.kinds.specs.Kinds.{Kind, kindOf}
 
 -- the line of an answer, and the store after it
 abbrev pub lineAndStore : List ℕ → Answer × Words → List ℕ × Words

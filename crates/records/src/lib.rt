@@ -1,6 +1,4 @@
 // The program sheet's step on one record: a record's bytes in, its line out, and the store as the record's call leaves it.
-mod lines;
-
 ghost use mathlib.Core.Path.{_≡_};
 ghost use mathlib.Core.Bool.{true};
 ghost use Prim.Native.Nat.{_+_, _*_, _≤_};
@@ -8,37 +6,11 @@ ghost use lib.ListN.{length, getD};
 ghost use Rattle.model.specs.Run.{run};
 ghost use Rattle.soundness.specs.Scan.{words};
 ghost use Rattle.judging.specs.Scheme.{wang};
-ghost use Rattle.records.specs.Kinds.{zeroScratch, insertCall, removeCall, queryCall, configOf, kindOf, fitsBy, goodLength};
+ghost use Rattle.kinds.specs.Kinds.{zeroScratch, insertCall, removeCall, queryCall, configOf, kindOf, goodLength};
 ghost use Rattle.records.specs.Step.{lineAndStore, stepBy, stepOf};
 ghost use Rattle.text.specs.Put.{Put};
 use judging::WangMatchConfig;
 use wang::WangIndex;
-
-// ---- a record's length
-
-fn fits_by(len: usize, fixed: usize, hashes: bool) -> bool
-    ensures { λ r. ⌜ r ≡ fitsBy len fixed hashes ⌝ }
-{
-    (1 <= len) & ((len <= 8192) & ((len % 4 == 1) & ((fixed <= len) & (hashes | (len == fixed)))))
-}
-
-// Whether this is the length of a record of this kind.
-pub fn good_length(len: usize, kind: u8) -> bool
-    ensures { λ r. ⌜ r ≡ goodLength len kind ⌝ }
-{
-    if kind == 1 {
-        return fits_by(len, 9, true);
-    }
-    if kind == 2 {
-        return fits_by(len, 5, false);
-    }
-    if kind == 3 {
-        return fits_by(len, 21, true);
-    }
-    false
-}
-
-// ---- a record
 
 // 01: limit, rate bits, hashes.
 fn insert_record(

@@ -4,7 +4,8 @@
 ghost use mathlib.Core.Path.{_≡_};
 ghost use Prim.Native.Nat.{_+_, _≤_};
 ghost use lib.ListN.{length};
-ghost use Rattle.records.specs.Kinds.{zeroScratch};
+ghost use Rattle.kinds.specs.Kinds.{zeroScratch};
+ghost use Rattle.card.specs.Sheet.{emptyStore};
 
 // Reads what there is of the input into a part of `bytes`, and answers how many bytes that is.
 fn read_part(bytes: &mut [u8], start: usize, end: usize) -> usize
@@ -37,7 +38,7 @@ fn flushed(out: &[u8], at: usize) -> usize
     0
 }
 
-// Turn after turn, from the one behind the version byte on.
+// The version byte, then turn after turn, on the store that a card's meaning begins with.
 fn run(
     refs: &mut [u32],
     postings: &mut [u32],
@@ -46,6 +47,7 @@ fn run(
     bytes: &mut [u8],
     out: &mut [u8],
 )
+    requires { ⌜ (now refs ≡ emptyStore .references) × (now postings ≡ emptyStore .postings) × (now stopped ≡ emptyStore .stopped) ⌝ }
     requires { ⌜ (now scratch ≡ zeroScratch) × (8196 ≤ length (now bytes)) × (256 ≤ length (now out)) ⌝ }
 {
     let got = read_part(bytes, 0, 1);
@@ -62,18 +64,40 @@ fn run(
     io::write_all(1, &out[..at]);
 }
 
-// Zeroed scratch for 512 votes.
+// ---- the buffers
+
+// R 32.
+fn zero_references() -> [u32; 132]
+    ensures { λ r. ⌜ r ≡ emptyStore .references ⌝ }
+{
+    [0; 132]
+}
+
+// P 1,024.
+fn zero_postings() -> [u32; 3072]
+    ensures { λ r. ⌜ r ≡ emptyStore .postings ⌝ }
+{
+    [0; 3072]
+}
+
+// K 256.
+fn zero_stopped() -> [u32; 256]
+    ensures { λ r. ⌜ r ≡ emptyStore .stopped ⌝ }
+{
+    [0; 256]
+}
+
+// Scratch for 512 votes.
 fn zero_scratch() -> [i64; 3072]
     ensures { λ r. ⌜ r ≡ zeroScratch ⌝ }
 {
     [0; 3072]
 }
 
-// R 32, P 1,024, K 256, scratch for 512 votes.
 fn main() {
-    let mut refs = [0u32; 132];
-    let mut postings = [0u32; 3072];
-    let mut stopped = [0u32; 256];
+    let mut refs = zero_references();
+    let mut postings = zero_postings();
+    let mut stopped = zero_stopped();
     let mut scratch = zero_scratch();
     let mut bytes = [0u8; 8196];
     let mut out = io::large_buffer();

@@ -278,12 +278,6 @@ fn stops_ascend(stops: &[u32], k: usize) -> bool
     true
 }
 
-fn wide(x: u32) -> u64
-    ensures { λ r. ⌜ r ≡ x ⌝ }
-{
-    x as u64
-}
-
 // Whether there is an entry i, and its key is this one.
 fn has_key(posts: &[u32], w: usize, p: usize, i: usize, key: u32) -> bool
     requires { ⌜ (1 ≤ w) × (w * p ≤ length (now posts)) ⌝ }
@@ -305,7 +299,7 @@ fn none_stopped(stops: &[u32], k: usize, posts: &[u32], w: usize, p: usize) -> b
     let mut j = 0;
     while j < k {
         let key = at(stops, j);
-        i = maps::first_from(posts, w, p, i, wide(key));
+        i = maps::first_from(posts, w, p, i, maps::wide(key));
         if has_key(posts, w, p, i, key) {
             return false;
         }

@@ -1,3 +1,4 @@
 pub mod Decimals
 pub mod Puts
 pub mod Decoding
+pub mod Newlines

@@ -1,12 +1,14 @@
 -- Numbers as bytes: big-endian words, decimal and hexadecimal digits, fields of a line. Definitions only. Assumes nothing.
-use mathlib.Core.Bool.{cond}
+use mathlib.Core.Path.{_≡_}
+use mathlib.Core.Bool.{Bool, false, cond}
 use mathlib.Core.List.{List, [], _∷_, _++_, map}
 use Prim.Native.Nat.{ℕ, zero, suc, _+_, _*_, _/_, _%_}
 use lib.IntN.{ℤ, natAbs}
 use lib.Signed.{nonNeg}
 use lib.ListN.{length, getD, drop}
-use lib.Dec.{ltb}
+use lib.Dec.{ltb, eqb}
 use lib.Ieee.{Float, binary32, toBits}
+use Rattle.lists.specs.Lists.{keep, All}
 use Rattle.lists.specs.Entries.{entries}
 
 -- "big-endian u32": four bytes as a number
@@ -58,3 +60,14 @@ field text = 32 ∷ text
 
 abbrev pub newline : List ℕ
 newline = 10 ∷ []
+
+abbrev pub isNewline : ℕ → Bool
+isNewline b = eqb b 10
+
+-- how many lines end in a text
+abbrev pub newlines : List ℕ → ℕ
+newlines s = length (keep isNewline s)
+
+-- a text in which no line ends
+abbrev pub Plain : List ℕ → Type 0
+Plain s = All (λ (b : ℕ). isNewline b ≡ false) s

@@ -1,4 +1,5 @@
-// Words read from bytes (fields.rt), and texts written into a lent buffer: each function puts its text behind the first `at` bytes and answers where it ends.
+// Words read from bytes (fields.rt), and texts written into a lent buffer: each function puts its text behind the first `at` bytes and answers
+// where it ends.
 mod fields;
 
 pub use fields::read_fields;

@@ -7,7 +7,8 @@ use lib.ListN.{length, getD}
 use Rattle.lists.specs.Lists.{sum}
 use Rattle.lists.specs.Entries.{entries}
 use Rattle.bins.specs.Votes.{packed}
-use Rattle.candidates.specs.Gathered.{found, wordsBy, Pairing, wordsFrom, Ids, Walk}
+use Rattle.seeking.specs.Starts.{Sought}
+use Rattle.candidates.specs.Gathered.{found, wordsBy, Pairing, wordsFrom, Ids}
 
 -- how many votes the query hashes hs have with the postings es: one with each under their keys
 unfoldable pub voteCount : List (List ℕ) → List (List ℕ) → ℕ
@@ -35,8 +36,7 @@ wordsOn shift q es = wordsBy (wordWith shift q) es
 
 -- what the gathering asks: each part of a vote has its bits
 pub record Packable (ps : List ℕ) (p : ℕ) (hs : List ℕ) (m top : ℕ) : Type 0 where
-  pub walk : Walk 3 ps p hs m
+  pub walk : Sought ps 3 p hs 2 m
   pub ids : Ids (entries 3 p ps)
-  pub short : m ≤ 2 ^ 11
   pub high : top < 2 ^ 32
   pub below : (i : ℕ) → i < m → getD hs (2 * i + 1) 0 ≤ top

@@ -1,12 +1,13 @@
 -- `card::turn` meets its contract. Assumes nothing.
 use Rattle.card.proofs.Reading.{Whole, whole-is, is-whole, record-good, record-short, part-is}
-use Rattle.card.proofs.Turns.{turn-end, turn-fault, turn-record}
+use Rattle.card.proofs.Turns.{nothing-is, turn-last, turn-record}
 use Rattle.card.specs.Turns.{Outcome, advanced}
 use Rattle.text.proofs.Puts.{as-text}
 use Rattle.soundness.specs.Scan.{words}
 use Rattle.model.specs.Words.{Words}
 use Rattle.records.specs.Step.{stepOf}
-use Rattle.records.specs.Kinds.{goodLength}
+use Rattle.kinds.specs.Kinds.{goodLength}
+use lib.Dec.{eqb}
 use lib.ListN.{length, getD}
 use borrow.Author.Tests.{not-true, not-false}
 use native.Mathlib.Omega.{arith}
@@ -20,28 +21,31 @@ use Rattle.card.proofs.turn.Tie as tie
 
 -- ---- places of the code
 
-abbrev start : tie.Else2 → tie.Start
-start c = c .before .before .before .before .before .before .before .before
+abbrev start : tie.Else1 → tie.Start
+start c = c .before .before .before .before .before .before .before
 
-abbrev bytes : tie.Else2 → List ℕ
+abbrev bytes : tie.Else1 → List ℕ
 bytes c = now (start c .args .bytes)
 
-abbrev store : tie.Else2 → Words
+abbrev store : tie.Else1 → Words
 store c = words (now (start c .args .refs)) (now (start c .args .postings)) (now (start c .args .stopped))
 
-is-whole-here : (c : tie.Else2) → Whole (bytes c)
-is-whole-here c = whole-is (bytes c) (sym (c .before .is-whole .ensures) ∙ not-false (c .before .is-whole .result) (c .if2 .left))
+is-whole-here : (c : tie.Else1) → Whole (bytes c)
+is-whole-here c = whole-is (bytes c) (sym (c .before .is-whole .ensures) ∙ not-false (c .before .is-whole .result) (c .if1 .left))
 
 abbrev measured : tie.After-step-arg6 → tie.After-length-at
 measured c = c .before .before .before .before .before .before
 
-abbrev stepped : tie.After-slice-known10 → tie.After-step
+abbrev stepped : tie.After-slice-known9 → tie.After-step
 stepped c = c .before .before .before .before .before .before .before .before .before
 
 -- ---- needs
 
-put-end-requires : tie.Need-put-end-requires
-put-end-requires c κs = search needs
+is-whole-requires : tie.Need-is-whole-requires
+is-whole-requires c κs = search needs
+
+put-last-requires : tie.Need-put-last-requires
+put-last-requires c κs = search needs
 
 stop-requires : tie.Need-stop-requires
 stop-requires c κs = search needs
@@ -51,29 +55,14 @@ same-length c = search needs
 
 returns : tie.Need-returns
 returns c =
-    let s = c .before .before .before .before .before .before .before .before .before .before .before in
-    let e = sym (turn-end (words (now (s .args .refs)) (now (s .args .postings)) (now (s .args .stopped))) (s .args .p) (now (s .args .bytes)) (c .before .before .before .before .before .if1 .taken)) in
-    let p = c .before .before .before .put-end .ensures in
+    let s = c .before .before .before .before .before .before .before .before .before .before .before .before in
+    let w = c .before .before .before .before .before .before .is-whole in
+    let e =
+    sym
+    (turn-last (words (now (s .args .refs)) (now (s .args .postings)) (now (s .args .stopped))) (s .args .p) (now (s .args .bytes))
+    (eqb (length (now (s .args .bytes))) 0) (nothing-is (now (s .args .bytes))) (sym (w .ensures) ∙ not-true (w .result) (c .before .before .before .before .before .if1 .taken))) in
+    let p = c .before .before .before .put-last .ensures in
     (as-text (p .0) (ap (λ (o : Outcome). o .line) e), (p .1, (ap (λ (o : Outcome). o .store) e, (c .stop .ensures ∙ ap (λ (o : Outcome). o .next) e, s .pre .1))))
-
-is-whole-requires : tie.Need-is-whole-requires
-is-whole-requires c κs = search needs
-
-put-fault-requires : tie.Need-put-fault-requires
-put-fault-requires c κs = search needs
-
-stop-requires-2 : tie.Need-stop-requires-2
-stop-requires-2 c κs = search needs
-
-same-length-2 : tie.Need-same-length-2
-same-length-2 c = search needs
-
-returns-2 : tie.Need-returns-2
-returns-2 c =
-    let s = c .before .before .before .before .before .before .before .before .before .before .before .before .before in
-    let e = sym (turn-fault (words (now (s .args .refs)) (now (s .args .postings)) (now (s .args .stopped))) (s .args .p) (now (s .args .bytes)) (c .before .before .before .before .before .before .before .if1 .left) (sym (c .before .before .before .before .before .before .is-whole .ensures) ∙ not-true (c .before .before .before .before .before .before .is-whole .result) (c .before .before .before .before .before .if2 .taken))) in
-    let p = c .before .before .before .put-fault .ensures in
-    (as-text (p .0) (ap (λ (o : Outcome). o .line) e), (p .1, (ap (λ (o : Outcome). o .store) e, (c .stop2 .ensures ∙ ap (λ (o : Outcome). o .next) e, s .pre .1))))
 
 length-at-requires : tie.Need-length-at-requires
 length-at-requires c κs = omega (arith, is-whole-here c .begins)
@@ -103,6 +92,9 @@ advance-requires c κs =
     let q = start (l .before) .pre .0 in
     (q .1, q .2, omega (arith, l .length-at .ensures .0))
 
+same-length-2 : tie.Need-same-length-2
+same-length-2 c = search needs
+
 same-length-3 : tie.Need-same-length-3
 same-length-3 c = search needs
 
@@ -115,11 +107,8 @@ same-length-5 c = search needs
 same-length-6 : tie.Need-same-length-6
 same-length-6 c = search needs
 
-same-length-7 : tie.Need-same-length-7
-same-length-7 c = search needs
-
-returns-3 : tie.Need-returns-3
-returns-3 c =
+returns-2 : tie.Need-returns-2
+returns-2 c =
     let l = measured (stepped (c .before) .before) in
     let m = store (l .before) in
     let s = bytes (l .before) in
@@ -133,15 +122,11 @@ pub turn-spec : {M : Type 1} → statement M
 turn-spec =
     tie.close
     (tie.spec
-    put-end-requires
+    is-whole-requires
+    put-last-requires
     stop-requires
     same-length
     returns
-    is-whole-requires
-    put-fault-requires
-    stop-requires-2
-    same-length-2
-    returns-2
     length-at-requires
     add-behind
     sub-step
@@ -149,9 +134,9 @@ turn-spec =
     part-step-end
     step-requires
     advance-requires
+    same-length-2
     same-length-3
     same-length-4
     same-length-5
     same-length-6
-    same-length-7
-    returns-3)
+    returns-2)

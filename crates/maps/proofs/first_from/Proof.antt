@@ -1,34 +1,12 @@
 -- `maps::first_from` meets its contract: the first entry at the key does not stand before `lo`. Assumes nothing.
-use mathlib.Core.Path.{_≡_}
-use mathlib.Core.Bool.{true}
-use mathlib.Core.List.{List}
-use mathlib.Core.Logic.{_⊎_, inl, inr}
-use Prim.Native.Nat.{ℕ, _+_, _-_, _≤_, _<_}
+use Prim.Native.Nat.{_+_, _-_, _≤_}
 use native.Mathlib.Omega.{arith}
 use borrow.Author.Needs.{needs}
 use Rattle.maps.specs.Entries.{firstAt}
-use Rattle.lists.specs.Entries.{keyAt, keysAscend}
-use Rattle.lists.proofs.Tests.{le-or-lt}
 use Rattle.lists.proofs.Entries.{stride}
-use Rattle.maps.proofs.Entries.{scale-le, ascend-prefix, first-splits, first-among}
+use Rattle.maps.proofs.Entries.{scale-le, ascend-prefix, first-splits, first-among, first-after, first-upto}
 use Rattle.maps.proofs.first_from.Statement.{statement}
 use Rattle.maps.proofs.first_from.Tie as tie
-
--- the first entry at a key stands after an entry below the key, and not after one at the key or above
-module _ (ps : List ℕ) (w p key at : ℕ) (t : keysAscend ps w p ≡ true) (h : at < p) where
-  after : keyAt ps w at < key → at < firstAt ps w p key
-  after k = go (le-or-lt (firstAt ps w p key) at)
-    where
-      go : (firstAt ps w p key ≤ at) ⊎ (at < firstAt ps w p key) → at < firstAt ps w p key
-      go (inl l) = absurd (omega (arith, first-splits ps w p key t .above at l h))
-      go (inr l) = l
-
-  upto : key ≤ keyAt ps w at → firstAt ps w p key ≤ at
-  upto k = go (le-or-lt (firstAt ps w p key) at)
-    where
-      go : (firstAt ps w p key ≤ at) ⊎ (at < firstAt ps w p key) → firstAt ps w p key ≤ at
-      go (inl l) = l
-      go (inr l) = absurd (omega (arith, first-splits ps w p key t .below at (omega arith) l))
 
 abbrev Inv-loop : tie.InvT-loop
 Inv-loop posts w p from key lo₀ reach₀ lo reach = (lo ≤ firstAt posts w p key) × (firstAt posts w p key ≤ p)
@@ -71,7 +49,7 @@ returns c =
     let s = c .before .before .before .before .before .before .before in
     let l = c .before .before .before .before .before .loop in
     first-among (s .args .posts .now) (s .args .w) (s .args .p) (s .args .key) (l .lo) (l .lo + l .reach) _ (s .pre .2) (l .inv .0)
-    (upto (s .args .posts .now) (s .args .w) (s .args .p) (s .args .key) (l .lo + l .reach) (s .pre .2) (omega arith) (omega arith)) (omega arith) (c .search .ensures)
+    (first-upto (s .args .posts .now) (s .args .w) (s .args .p) (s .args .key) (l .lo + l .reach) (s .pre .2) (omega arith) (omega arith)) (omega arith) (c .search .ensures)
 
 add-lo : tie.Need-add-lo Inv-loop μ-loop
 add-lo c = omega arith
@@ -88,7 +66,7 @@ loop-again : tie.Need-loop-again Inv-loop μ-loop
 loop-again c =
     let s = c .before .before .before .before .before .before in
     let l = c .before .before .before .before .loop in
-    (omega (arith, after (s .args .posts .now) (s .args .w) (s .args .p) (s .args .key) (l .lo + l .reach) (s .pre .2) (omega arith) (omega arith)), l .inv .1)
+    (omega (arith, first-after (s .args .posts .now) (s .args .w) (s .args .p) (s .args .key) (l .lo + l .reach) (s .pre .2) (omega arith) (omega arith)), l .inv .1)
 
 search-requires-2 : tie.Need-search-requires-2 Inv-loop μ-loop
 search-requires-2 c κs = search needs

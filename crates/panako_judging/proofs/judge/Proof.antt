@@ -1,19 +1,20 @@
 -- `panako_judging::judge` meets its contract. Assumes nothing.
-use mathlib.Core.Path.{_≡_, sym, _∙_}
-use mathlib.Core.Bool.{true}
+use mathlib.Core.Path.{_≡_, sym, ap, _∙_}
 use mathlib.Core.List.{List}
-use Prim.Native.Nat.{_+_, _*_, _≤_}
+use Prim.Native.Nat.{ℕ, _+_, _*_, _≤_}
 use native.Mathlib.Omega.{arith}
 use lib.ListN.{length}
 use borrow.Author.Tests.{not-true, not-false}
-use Rattle.maps.proofs.Words.{outside-none, outside-widen}
-use Rattle.matching.specs.Rates.{ratesAgree}
+use Rattle.maps.proofs.Words.{outside-none}
+use Rattle.bins.specs.Codes.{codesIn}
+use Rattle.bins.proofs.Occupied.{occupied-some}
+use Rattle.bins.proofs.Binning.{codes-length}
+use Rattle.judging.specs.Gates.{admits}
 use Rattle.judging.specs.declared.Verdict.the-variants.{Barred}
-use Rattle.judging.proofs.Passing.{bar-rate, bar-votes, goes-on}
-use Rattle.panako_judging.specs.Judge.{Vote, askedOf, atPeak, resultOf}
+use Rattle.judging.proofs.Passing.{bar-entry, goes-on}
+use Rattle.panako_judging.specs.Judge.{Vote, panakoForm, askedOf, atPeak, resultOf}
 use Rattle.panako_judging.specs.Candidates.{votesIn}
-use Rattle.panako_judging.proofs.Occupied.{occupied-some}
-use Rattle.panako_judging.proofs.Words.{votes-length, part-bins, weighed-part}
+use Rattle.panako_judging.proofs.Words.{votes-length, bins-few, bins-outside, part-bins, weighed-part}
 use Rattle.panako_judging.proofs.Gates.{seen, judged-by}
 use borrow.Author.Needs.{needs}
 use Rattle.panako_judging.proofs.judge.Statement.{statement}
@@ -21,39 +22,45 @@ use Rattle.panako_judging.proofs.judge.Tie as tie
 
 -- ---- the places
 
-abbrev start : tie.After-frames-per-sec-compatible → tie.Start
+abbrev start : tie.After-admitted → tie.Start
 start c = c .before .before .before
-
-abbrev second : tie.Else2 → tie.Else1
-second c = c .before .before
 
 abbrev binned : tie.After-weigh-arg → tie.After-count-sorted
 binned c = c .before .before .before
 
-abbrev third : tie.After-count-sorted → tie.Else2
-third c = c .before .before
+abbrev let-in : tie.After-count-sorted → tie.Else1
+let-in c = c .before .before
 
 abbrev votes : tie.Start → List Vote
 votes o = votesIn (o .args .s .now) (o .args .a) (o .args .g)
 
--- ---- what each test found
-
-agree : (c : tie.Else1) → ratesAgree (start (c .before) .args .q .«frames_per_sec») (c .before .before .f32-from-bits .result) ≡ true
-agree c = sym (c .before .frames-per-sec-compatible .ensures) ∙ not-false _ (c .if1 .left)
+-- ---- what the first gates found
 
 fits : (o : tie.Start) → o .args .a + o .args .g ≤ length (o .args .s .now)
 fits o = omega (arith, o .pre .group .before, o .pre .group .room)
 
-all-votes : (o : tie.Start) → length (votes o) ≡ o .args .g
-all-votes o = votes-length (o .args .s .now) (o .args .a) (o .args .g) (fits o)
+entry : (c : tie.After-admitted) → c .admitted .result ≡ admits (start c .args .q .«frames_per_sec») (c .before .f32-from-bits .result) (start c .args .q .cfg .«min_votes») (length (votes (start c)))
+entry c =
+    let o = start c in
+    c .admitted .ensures ∙ ap (λ (n : ℕ). admits (o .args .q .«frames_per_sec») (c .before .f32-from-bits .result) (o .args .q .cfg .«min_votes») n) (sym (votes-length (o .args .s .now) (o .args .a) (o .args .g) (fits o)))
+
+-- ---- its bins
+
+abbrev opened : tie.After-count-sorted → tie.Start
+opened b = start (let-in b .before)
+
+few : (b : tie.After-count-sorted) → b .count-sorted .result ≤ opened b .args .g
+few b =
+    let o = opened b in
+    bins-few (o .args .s .now) (o .args .a) (o .args .g) (fits o) (o .args .at) (b .count-sorted .result) (b .count-sorted .last .0) (o .pre .group .room) (b .count-sorted .ensures .0) (b .count-sorted .ensures .1)
 
 -- ---- the needs
 
 f32-from-bits-requires : tie.Need-f32-from-bits-requires
 f32-from-bits-requires c κs = search needs
 
-frames-per-sec-compatible-requires : tie.Need-frames-per-sec-compatible-requires
-frames-per-sec-compatible-requires c κs = search needs
+admitted-requires : tie.Need-admitted-requires
+admitted-requires c κs = search needs
 
 returns : tie.Need-returns
 returns c =
@@ -61,74 +68,60 @@ returns c =
     let q = o .args .q in
     let f = c .before .before .f32-from-bits in
     let w = seen q (o .args .rate) (votes o) in (
-      judged-by q (o .args .rate) (votes o) (f .result) (f .ensures) Barred
-          (bar-rate (askedOf q) (f .result) (length (votes o)) (atPeak w) (resultOf q (f .result) w) (sym (c .before .frames-per-sec-compatible .ensures) ∙ not-true _ (c .if1 .taken))),
+      judged-by q (o .args .rate) (votes o) (f .result) (f .ensures) Barred (bar-entry (askedOf q) (f .result) (length (votes o)) (atPeak w) (resultOf q (f .result) w) (sym (entry (c .before)) ∙ not-true _ (c .if1 .taken))),
       outside-none (o .args .s .now) (o .args .at) (o .args .at + 3 * o .args .g),
     )
 
-wide-requires : tie.Need-wide-requires
-wide-requires c κs = search needs
-
-returns-2 : tie.Need-returns-2
-returns-2 c =
-    let e = c .before .before in
-    let o = start (e .before) in
-    let q = o .args .q in
-    let f = e .before .before .f32-from-bits in
-    let w = seen q (o .args .rate) (votes o) in (
-      judged-by q (o .args .rate) (votes o) (f .result) (f .ensures) Barred
-          (bar-votes (askedOf q) (f .result) (length (votes o)) (atPeak w) (resultOf q (f .result) w) (agree e) (omega (arith, c .if2 .taken, c .before .wide .ensures, all-votes o))),
-      outside-none (o .args .s .now) (o .args .at) (o .args .at + 3 * o .args .g),
-    )
+cast-count-sorted : tie.Need-cast-count-sorted
+cast-count-sorted c = search needs
 
 count-sorted-requires : tie.Need-count-sorted-requires
 count-sorted-requires c κs = search needs
 
 mul-e : tie.Need-mul-e
-mul-e c = search needs
+mul-e c = let k = few (c .before) in search needs
 
 add-e : tie.Need-add-e
-add-e c = search needs
+add-e c = let k = few (c .before) in search needs
 
 mul-weigh : tie.Need-mul-weigh
-mul-weigh c = search needs
+mul-weigh c = let k = few (c .before) in search needs
 
 sub-weigh : tie.Need-sub-weigh
-sub-weigh c = search needs
+sub-weigh c = let k = few (c .before) in search needs
 
 part-weigh-start : tie.Need-part-weigh-start
 part-weigh-start c = search needs
 
 part-weigh-end : tie.Need-part-weigh-end
-part-weigh-end c = search needs
+part-weigh-end c = let k = few (c .before .before) in search needs
 
 weigh-requires : tie.Need-weigh-requires
 weigh-requires c κs =
     let b = binned c in
-    let o = start (second (third b) .before) in
+    let o = opened b in
     let n = b .count-sorted in (
-      part-bins (o .args .s .now) (o .args .a) (o .args .g) (fits o) (o .args .at) (n .result) (n .last .0) (n .ensures .0) (n .ensures .2) (o .pre .few),
-      omega (arith, n .ensures .0, occupied-some (votes o) (omega (arith, all-votes o, o .pre .some))),
+      part-bins (o .args .s .now) (o .args .a) (o .args .g) (fits o) (o .args .at) (n .result) (n .last .0) (o .pre .group .room) (n .ensures .0) (n .ensures .1) (o .pre .few),
+      omega (arith, n .ensures .0, occupied-some (codesIn panakoForm (o .args .s .now) (o .args .a) (o .args .g)) (omega (arith, codes-length panakoForm (o .args .s .now) (o .args .a) (o .args .g) (fits o), o .pre .some))),
       o .pre .tolerance,
     )
 
 same-length : tie.Need-same-length
 same-length c = search needs
 
-returns-3 : tie.Need-returns-3
-returns-3 c =
+returns-2 : tie.Need-returns-2
+returns-2 c =
     let b = binned (c .before) in
-    let d = third b in
-    let e = second d in
+    let e = let-in b in
     let o = start (e .before) in
     let q = o .args .q in
     let f = e .before .before .f32-from-bits in
     let w = seen q (o .args .rate) (votes o) in
     let n = b .count-sorted in (
       judged-by q (o .args .rate) (votes o) (f .result) (f .ensures) (c .weigh .result)
-          (goes-on (askedOf q) (f .result) (length (votes o)) (atPeak w) (resultOf q (f .result) w) (agree e) (omega (arith, d .if2 .left, d .before .wide .ensures, all-votes o)) (c .weigh .result)
-          (weighed-part (o .args .s .now) (o .args .a) (o .args .g) (fits o) (o .args .at) (n .result) (n .last .0) (n .ensures .0) (n .ensures .2) q (f .result) (c .weigh .result) (c .weigh .ensures))),
-      outside-widen (o .args .s .now) (n .last .0) (o .args .at) (o .args .at + 3 * n .result) (o .args .at + 3 * o .args .g) (n .ensures .3) (omega (arith, n .ensures .1)),
+          (goes-on (askedOf q) (f .result) (length (votes o)) (atPeak w) (resultOf q (f .result) w) (sym (entry (e .before)) ∙ not-false _ (e .if1 .left)) (c .weigh .result)
+          (weighed-part (o .args .s .now) (o .args .a) (o .args .g) (fits o) (o .args .at) (n .result) (n .last .0) (o .pre .group .room) (n .ensures .0) (n .ensures .1) q (f .result) (c .weigh .result) (c .weigh .ensures))),
+      bins-outside (o .args .s .now) (o .args .a) (o .args .g) (fits o) (o .args .at) (n .result) (n .last .0) (o .pre .group .room) (n .ensures .0) (n .ensures .1),
     )
 
 pub judge-spec : {M : Type 1} → statement M
@@ -136,10 +129,9 @@ judge-spec =
     tie.close
     (tie.spec
     f32-from-bits-requires
-    frames-per-sec-compatible-requires
+    admitted-requires
     returns
-    wide-requires
-    returns-2
+    cast-count-sorted
     count-sorted-requires
     mul-e
     add-e
@@ -149,4 +141,4 @@ judge-spec =
     part-weigh-end
     weigh-requires
     same-length
-    returns-3)
+    returns-2)

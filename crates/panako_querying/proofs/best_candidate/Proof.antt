@@ -11,7 +11,7 @@ use Rattle.panako_querying.proofs.best_candidate.Statement.{statement}
 use Rattle.panako_querying.proofs.best_candidate.Tie as tie
 
 gather-requires : tie.Need-gather-requires
-gather-requires c κs = let s = c .before .before .before .before in rw (s .pre .1, s .pre .2) (s .pre .0 .packable, omega (arith, s .pre .4))
+gather-requires c κs = let s = c .before .before .before .before in rw (s .pre .1, s .pre .2) (s .pre .0 .packable, rw (s .pre .1) at (s .pre .5), omega (arith, s .pre .4))
 
 sort-words-requires : tie.Need-sort-words-requires
 sort-words-requires c κs =

@@ -10,16 +10,23 @@ use Rattle.panako_voting.proofs.count_votes.Statement.{statement}
 use Rattle.panako_voting.proofs.count_votes.Tie as tie
 
 abbrev Inv-loop : tie.InvT-loop
-Inv-loop posts p hashes m g room v₀ i k qa qc part n j₀ v j = Counting g posts p hashes room i qa qc part n v j
+Inv-loop posts p hashes m starts g room v₀ i k qa qc part n j₀ v j = Counting g posts p hashes room i qa qc part n v j
 
 abbrev μ-loop : tie.MeasureT-loop
-μ-loop posts p hashes m g room v₀ i k qa qc part n j₀ v j = n - j
+μ-loop posts p hashes m starts g room v₀ i k qa qc part n j₀ v j = n - j
 
 abbrev Inv-hashes : tie.InvT-hashes
-Inv-hashes posts p hashes m g room v₀ i₀ v i = (v ≡ length (before g posts p hashes i)) × (v ≤ room) × (i ≤ m)
+Inv-hashes posts p hashes m starts g room v₀ i₀ v i = (v ≡ length (before g posts p hashes i)) × (v ≤ room) × (i ≤ m)
 
 abbrev μ-hashes : tie.MeasureT-hashes
-μ-hashes posts p hashes m g room v₀ i₀ v i = m - i
+μ-hashes posts p hashes m starts g room v₀ i₀ v i = m - i
+
+-- the places of the outer loop and of its part
+abbrev start : tie.At-hashes Inv-loop μ-loop Inv-hashes μ-hashes → tie.Start Inv-loop μ-loop Inv-hashes μ-hashes
+start c = c .before .before .before
+
+abbrev outer : tie.After-part-at Inv-loop μ-loop Inv-hashes μ-hashes → tie.At-hashes Inv-loop μ-loop Inv-hashes μ-hashes
+outer c = c .before .before .before .before .before .before
 
 hashes-holds : tie.Need-hashes-holds Inv-loop μ-loop Inv-hashes μ-hashes
 hashes-holds c = let a = c .before .before .args in (sym (ap length (before-none (a .g) (a .posts .now) (a .p) (a .hashes .now))), omega arith, omega arith)
@@ -45,29 +52,38 @@ mul-qc c = search needs
 shared-slice-read-qc : tie.Need-shared-slice-read-qc Inv-loop μ-loop Inv-hashes μ-hashes
 shared-slice-read-qc c = search needs
 
-mul-postings-of : tie.Need-mul-postings-of Inv-loop μ-loop Inv-hashes μ-hashes
-mul-postings-of c = search needs
+mul-part-at : tie.Need-mul-part-at Inv-loop μ-loop Inv-hashes μ-hashes
+mul-part-at c = search needs
 
-shared-slice-read-postings-of :
-    tie.Need-shared-slice-read-postings-of Inv-loop μ-loop Inv-hashes μ-hashes
-shared-slice-read-postings-of c = search needs
+element-copy-out-part-at : tie.Need-element-copy-out-part-at Inv-loop μ-loop Inv-hashes μ-hashes
+element-copy-out-part-at c = search needs
 
-postings-of-requires : tie.Need-postings-of-requires Inv-loop μ-loop Inv-hashes μ-hashes
-postings-of-requires c κs = let s = c .before .before .before .before .before .before .before in (omega arith, s .pre .0 .postings, s .pre .0 .ascend)
+mul-part-at-2 : tie.Need-mul-part-at-2 Inv-loop μ-loop Inv-hashes μ-hashes
+mul-part-at-2 c = search needs
+
+shared-slice-read-part-at : tie.Need-shared-slice-read-part-at Inv-loop μ-loop Inv-hashes μ-hashes
+shared-slice-read-part-at c = search needs
+
+part-at-requires : tie.Need-part-at-requires Inv-loop μ-loop Inv-hashes μ-hashes
+part-at-requires c κs =
+    let l = c .before .before .before .before .before in
+    let s = start l in
+    (omega arith, s .pre .0 .postings, s .pre .0 .ascend, s .pre .1 .begins (l .hashes .i) (omega arith))
 
 loop-holds : tie.Need-loop-holds Inv-loop μ-loop Inv-hashes μ-hashes
 loop-holds c =
-    let s = c .before .before .before .before .before .before .before .before in
+    let s = start (outer c) in
     let a = s .args in
-    let l = c .before .before .before .before .before .hashes in
-    counting-none (a .g) (a .posts .now) (a .p) (a .hashes .now) (s .pre .0 .postings) (a .room) (l .i) _ _ _ _ (l .v) refl refl (c .postings-of .ensures) refl (l .inv .0) (l .inv .1)
+    let l = outer c .hashes in
+    counting-none (a .g) (a .posts .now) (a .p) (a .hashes .now) (s .pre .0 .postings) (a .room) (l .i) _ _ _ _ (l .v) refl refl (c .part-at .ensures) refl (l .inv .0) (l .inv .1)
 
 pair-count-requires : tie.Need-pair-count-requires Inv-loop μ-loop Inv-hashes μ-hashes
 pair-count-requires c κs =
-    let s = c .before .before .before .before .before .before .before .before .before .before in
+    let o = outer (c .before .before) in
+    let s = start o in
     let a = s .args in
     let l = c .before .loop in
-    omega (arith, counting-room (a .g) (a .posts .now) (a .p) (a .hashes .now) (s .pre .0 .postings) (a .room) (c .before .before .before .before .before .before .before .hashes .i) _ _ _ _ (l .v) (l .j) (l .inv))
+    omega (arith, counting-room (a .g) (a .posts .now) (a .p) (a .hashes .now) (s .pre .0 .postings) (a .room) (o .hashes .i) _ _ _ _ (l .v) (l .j) (l .inv))
 
 add-v : tie.Need-add-v Inv-loop μ-loop Inv-hashes μ-hashes
 add-v c = omega (arith, c .pair-count .ensures .1, c .before .before .loop .inv .fits)
@@ -80,10 +96,11 @@ loop-less c = search needs
 
 loop-again : tie.Need-loop-again Inv-loop μ-loop Inv-hashes μ-hashes
 loop-again c =
-    let s = c .before .before .before .before .before .before .before .before .before .before .before .before in
+    let o = outer (c .before .before .before .before) in
+    let s = start o in
     let a = s .args in
     let l = c .before .before .before .loop in
-    counting-more (a .g) (a .posts .now) (a .p) (a .hashes .now) (s .pre .0 .postings) (a .room) (c .before .before .before .before .before .before .before .before .before .hashes .i) _ _ _ _ (l .v) (l .j) (l .inv) (c .before .pair-count .result) (c .before .pair-count .ensures .0) (omega arith) (omega arith)
+    counting-more (a .g) (a .posts .now) (a .p) (a .hashes .now) (s .pre .0 .postings) (a .room) (o .hashes .i) _ _ _ _ (l .v) (l .j) (l .inv) (c .before .pair-count .result) (c .before .pair-count .ensures .0) (omega arith) (omega arith)
 
 add-i : tie.Need-add-i Inv-loop μ-loop Inv-hashes μ-hashes
 add-i c = search needs
@@ -93,14 +110,15 @@ hashes-less c = search needs
 
 hashes-again : tie.Need-hashes-again Inv-loop μ-loop Inv-hashes μ-hashes
 hashes-again c =
-    let s = c .before .before .before .before .before .before .before .before .before .before in
+    let o = outer (c .before .before) in
+    let s = start o in
     let a = s .args in
     let l = c .before .loop in
-    (counting-all (a .g) (a .posts .now) (a .p) (a .hashes .now) (s .pre .0 .postings) (a .room) (c .before .before .before .before .before .before .before .hashes .i) _ _ _ _ (l .v) (l .j) (l .inv) (omega (arith, l .inv .on)), l .inv .fits, omega arith)
+    (counting-all (a .g) (a .posts .now) (a .p) (a .hashes .now) (s .pre .0 .postings) (a .room) (o .hashes .i) _ _ _ _ (l .v) (l .j) (l .inv) (omega (arith, l .inv .on)), l .inv .fits, omega arith)
 
 returns : tie.Need-returns Inv-loop μ-loop Inv-hashes μ-hashes
 returns c =
-    let a = c .before .before .before .before .args in
+    let a = start (c .before) .args in
     let l = c .before .hashes in
     let e : l .i ≡ a .m = omega arith in
     let q = rw e at (l .inv .0) in
@@ -108,11 +126,12 @@ returns c =
 
 returns-2 : tie.Need-returns-2 Inv-loop μ-loop Inv-hashes μ-hashes
 returns-2 c =
-    let s = c .before .before .before .before .before .before .before .before .before .before .before .before in
+    let o = outer (c .before .before .before .before) in
+    let s = start o in
     let a = s .args in
     let l = c .before .before .before .loop in
-    let o = counting-over (a .g) (a .posts .now) (a .p) (a .hashes .now) (s .pre .0 .postings) (a .room) (c .before .before .before .before .before .before .before .before .before .hashes .i) _ _ _ _ (l .v) (l .j) (l .inv) (c .before .pair-count .result) (c .before .pair-count .ensures .0) (omega arith) (a .m) (omega arith) in
-    omega (arith, o, ap length (before-all (a .g) (a .posts .now) (a .p) (a .hashes .now) (a .m)), c .before .pair-count .ensures .1, l .inv .fits)
+    let k = counting-over (a .g) (a .posts .now) (a .p) (a .hashes .now) (s .pre .0 .postings) (a .room) (o .hashes .i) _ _ _ _ (l .v) (l .j) (l .inv) (c .before .pair-count .result) (c .before .pair-count .ensures .0) (omega arith) (a .m) (c .before .before .before .before .before .before .before .before .before .hashes-test .taken) in
+    omega (arith, k, ap length (before-all (a .g) (a .posts .now) (a .p) (a .hashes .now) (a .m)), c .before .pair-count .ensures .1, l .inv .fits)
 
 pub count-votes-spec : {M : Type 1} → statement M
 count-votes-spec =
@@ -130,9 +149,11 @@ count-votes-spec =
     add-qc
     mul-qc
     shared-slice-read-qc
-    mul-postings-of
-    shared-slice-read-postings-of
-    postings-of-requires
+    mul-part-at
+    element-copy-out-part-at
+    mul-part-at-2
+    shared-slice-read-part-at
+    part-at-requires
     loop-holds
     pair-count-requires
     add-v

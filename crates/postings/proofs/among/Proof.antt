@@ -17,7 +17,7 @@ first-at-requires c κs = let s = c .before .before in
 
 returns : tie.Need-returns
 returns c = let s = c .before .before .before .before in
-    sym (among-past (s .args .n) (s .args .xs .now) (s .pre) (s .args .x) (c .before .first-at .result) (c .before .first-at .ensures ∙ rw (c .before .before .wide .ensures)) (c .if1 .taken))
+    sym (among-past (s .args .n) (s .args .xs .now) (s .pre) (s .args .x) (c .before .first-at .result) (c .before .first-at .ensures ∙ rw (c .before .before .wide .ensures .0)) (c .if1 .taken))
 
 at-requires : tie.Need-at-requires
 at-requires c κs = search needs
@@ -25,7 +25,7 @@ at-requires c κs = search needs
 returns-2 : tie.Need-returns-2
 returns-2 c = let s = c .before .before .before .before .before in
     ap (λ (y : ℕ). eqb y (s .args .x)) (c .at .ensures)
-    ∙ among-at (s .args .n) (s .args .xs .now) (s .pre) (s .args .x) (c .before .before .first-at .result) (c .before .before .first-at .ensures ∙ rw (c .before .before .before .wide .ensures)) (c .before .if1 .left)
+    ∙ among-at (s .args .n) (s .args .xs .now) (s .pre) (s .args .x) (c .before .before .first-at .result) (c .before .before .first-at .ensures ∙ rw (c .before .before .before .wide .ensures .0)) (c .before .if1 .left)
 
 pub among-spec : {M : Type 1} → statement M
 among-spec = tie.close (tie.spec wide-requires first-at-requires returns at-requires returns-2)

@@ -17,7 +17,7 @@ gather-requires : tie.Need-gather-requires
 gather-requires c κs =
     let s = c .before .before .before .before .before in
     let a = s .args in
-    rw (c .wide .ensures .0, s .pre .1) (s .pre .0 .packable, omega (arith, s .pre .3, gathered-many (a .q) (a .refs .now) (a .posts .now) (a .hashes .now)))
+    rw (c .wide .ensures .0, s .pre .1) (s .pre .0 .packable, rw (s .pre .1) at (s .pre .4), omega (arith, s .pre .3, gathered-many (a .q) (a .refs .now) (a .posts .now) (a .hashes .now)))
 
 sort-words-requires : tie.Need-sort-words-requires
 sort-words-requires c κs =

@@ -1,5 +1,6 @@
 -- `records::run_record` meets its contract. Assumes nothing.
-use Rattle.records.proofs.Steps.{good-insert, good-remove, good-query, step-at}
+use Rattle.kinds.proofs.Lengths.{good-insert, good-remove, good-query}
+use Rattle.records.proofs.Steps.{step-at}
 use Rattle.text.proofs.Puts.{as-text}
 use lib.ListN.{length}
 use Rattle.soundness.specs.Scan.{words}

@@ -1,5 +1,6 @@
 -- `records::step` meets its contract. Assumes nothing.
-use Rattle.records.proofs.Steps.{good-long, good-words, step-of}
+use Rattle.kinds.proofs.Lengths.{good-long, good-words}
+use Rattle.records.proofs.Steps.{step-of}
 use Rattle.text.proofs.Puts.{as-text}
 use Rattle.soundness.specs.Scan.{words}
 use Rattle.model.specs.Words.{Words}

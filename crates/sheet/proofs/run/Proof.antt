@@ -1,6 +1,6 @@
 -- `sheet::run` meets its contract. The invariant: the scratch is zeros, the lines end in the buffer, and there are no more records than bytes. The
 -- measure is what is left until the limit. Assumes nothing.
-use Rattle.records.specs.Kinds.{zeroScratch}
+use Rattle.kinds.specs.Kinds.{zeroScratch}
 use Rattle.card.proofs.Turns.{left, Next, next-turn, below-limit, started-counts}
 use Rattle.card.specs.Turns.{goesOn}
 use lib.Seq.{length-take-le}

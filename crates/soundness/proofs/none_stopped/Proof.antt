@@ -27,7 +27,7 @@ wide-requires c κs = search needs
 first-from-requires : tie.Need-first-from-requires Inv-loop μ-loop
 first-from-requires c κs = let s = c .before .before .before .before .before .before in
     let l = c .before .before .before .loop in
-    (omega arith, s .pre .0 .1, s .pre .1 .0, rw (c .wide .ensures, c .before .at .ensures) (since (s .args .w) (s .args .stops .now) (s .args .k) (s .args .posts .now) (s .args .p) (l .i) (l .j) (omega arith) (s .pre .1 .0) (s .pre .1 .1) (omega arith) (l .inv .1) (l .inv .2)))
+    (omega arith, s .pre .0 .1, s .pre .1 .0, rw (c .wide .ensures .0, c .before .at .ensures) (since (s .args .w) (s .args .stops .now) (s .args .k) (s .args .posts .now) (s .args .p) (l .i) (l .j) (omega arith) (s .pre .1 .0) (s .pre .1 .1) (omega arith) (l .inv .1) (l .inv .2)))
 
 has-key-requires : tie.Need-has-key-requires Inv-loop μ-loop
 has-key-requires c κs = let s = c .before .before .before .before .before .before .before in
@@ -36,7 +36,7 @@ has-key-requires c κs = let s = c .before .before .before .before .before .befo
 returns : tie.Need-returns Inv-loop μ-loop
 returns c = let s = c .before .before .before .before .before .before .before .before .before in
     let l = c .before .before .before .before .before .before .loop in
-    sym (walked-hit (s .args .w) (s .args .stops .now) (s .args .k) (s .args .posts .now) (s .args .p) (l .i) (l .j) (omega arith) (s .pre .1 .0) (s .pre .1 .1) (omega arith) (l .inv .1) (l .inv .2) (c .before .before .first-from .ensures ∙ rw (c .before .before .before .wide .ensures, c .before .before .before .before .at .ensures)) (rw (c .before .before .before .before .at .ensures) at (sym (c .before .has-key .ensures) ∙ c .if1 .taken)))
+    sym (walked-hit (s .args .w) (s .args .stops .now) (s .args .k) (s .args .posts .now) (s .args .p) (l .i) (l .j) (omega arith) (s .pre .1 .0) (s .pre .1 .1) (omega arith) (l .inv .1) (l .inv .2) (c .before .before .first-from .ensures ∙ rw (c .before .before .before .wide .ensures .0, c .before .before .before .before .at .ensures)) (rw (c .before .before .before .before .at .ensures) at (sym (c .before .has-key .ensures) ∙ c .if1 .taken)))
 
 add-j : tie.Need-add-j Inv-loop μ-loop
 add-j c = omega arith
@@ -48,8 +48,8 @@ loop-again : tie.Need-loop-again Inv-loop μ-loop
 loop-again c = let s = c .before .before .before .before .before .before .before .before .before in
     let l = c .before .before .before .before .before .before .loop in (
       omega arith,
-      inside (s .args .w) (s .args .stops .now) (s .args .k) (s .args .posts .now) (s .args .p) (l .i) (l .j) (omega arith) (s .pre .1 .0) (s .pre .1 .1) (omega arith) (l .inv .1) (l .inv .2) (c .before .before .first-from .ensures ∙ rw (c .before .before .before .wide .ensures, c .before .before .before .before .at .ensures)),
-      walked-more (s .args .w) (s .args .stops .now) (s .args .k) (s .args .posts .now) (s .args .p) (l .i) (l .j) (omega arith) (s .pre .1 .0) (s .pre .1 .1) (omega arith) (l .inv .1) (l .inv .2) (c .before .before .first-from .ensures ∙ rw (c .before .before .before .wide .ensures, c .before .before .before .before .at .ensures)) (rw (c .before .before .before .before .at .ensures) at (sym (c .before .has-key .ensures) ∙ c .if1 .left)),
+      inside (s .args .w) (s .args .stops .now) (s .args .k) (s .args .posts .now) (s .args .p) (l .i) (l .j) (omega arith) (s .pre .1 .0) (s .pre .1 .1) (omega arith) (l .inv .1) (l .inv .2) (c .before .before .first-from .ensures ∙ rw (c .before .before .before .wide .ensures .0, c .before .before .before .before .at .ensures)),
+      walked-more (s .args .w) (s .args .stops .now) (s .args .k) (s .args .posts .now) (s .args .p) (l .i) (l .j) (omega arith) (s .pre .1 .0) (s .pre .1 .1) (omega arith) (l .inv .1) (l .inv .2) (c .before .before .first-from .ensures ∙ rw (c .before .before .before .wide .ensures .0, c .before .before .before .before .at .ensures)) (rw (c .before .before .before .before .at .ensures) at (sym (c .before .has-key .ensures) ∙ c .if1 .left)),
     )
 
 returns-2 : tie.Need-returns-2 Inv-loop μ-loop

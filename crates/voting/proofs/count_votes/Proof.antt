@@ -15,40 +15,46 @@ use Rattle.voting.proofs.count_votes.Statement.{statement}
 use Rattle.voting.proofs.count_votes.Tie as tie
 
 abbrev Inv-loop : tie.InvT-loop
-Inv-loop posts p hashes m room v₀ i n j₀ v j = (v ≡ voteCount (entries 3 p posts) (entries 2 i hashes) + j) × (v ≤ room) × (n ≡ length (under keyOf (getD hashes (2 * i) 0) (entries 3 p posts))) × (j ≤ n)
+Inv-loop posts p hashes m starts room v₀ i n j₀ v j = (v ≡ voteCount (entries 3 p posts) (entries 2 i hashes) + j) × (v ≤ room) × (n ≡ length (under keyOf (getD hashes (2 * i) 0) (entries 3 p posts))) × (j ≤ n)
 
 abbrev μ-loop : tie.MeasureT-loop
-μ-loop posts p hashes m room v₀ i n j₀ v j = n - j
+μ-loop posts p hashes m starts room v₀ i n j₀ v j = n - j
 
 abbrev Inv-hashes : tie.InvT-hashes
-Inv-hashes posts p hashes m room v₀ i₀ v i = (v ≡ voteCount (entries 3 p posts) (entries 2 i hashes)) × (v ≤ room) × (i ≤ m)
+Inv-hashes posts p hashes m starts room v₀ i₀ v i = (v ≡ voteCount (entries 3 p posts) (entries 2 i hashes)) × (v ≤ room) × (i ≤ m)
 
 abbrev μ-hashes : tie.MeasureT-hashes
-μ-hashes posts p hashes m room v₀ i₀ v i = m - i
+μ-hashes posts p hashes m starts room v₀ i₀ v i = m - i
 
 hashes-holds : tie.Need-hashes-holds Inv-loop μ-loop Inv-hashes μ-hashes
 hashes-holds c = (sym (count-none _ _), omega arith, omega arith)
 
-mul-postings-of : tie.Need-mul-postings-of Inv-loop μ-loop Inv-hashes μ-hashes
-mul-postings-of c = search needs
+mul-part-at : tie.Need-mul-part-at Inv-loop μ-loop Inv-hashes μ-hashes
+mul-part-at c = search needs
 
-mul-postings-of-2 : tie.Need-mul-postings-of-2 Inv-loop μ-loop Inv-hashes μ-hashes
-mul-postings-of-2 c = search needs
+element-copy-out-part-at : tie.Need-element-copy-out-part-at Inv-loop μ-loop Inv-hashes μ-hashes
+element-copy-out-part-at c = search needs
 
-shared-slice-read-postings-of :
-    tie.Need-shared-slice-read-postings-of Inv-loop μ-loop Inv-hashes μ-hashes
-shared-slice-read-postings-of c = search needs
+mul-part-at-2 : tie.Need-mul-part-at-2 Inv-loop μ-loop Inv-hashes μ-hashes
+mul-part-at-2 c = search needs
 
-postings-of-requires : tie.Need-postings-of-requires Inv-loop μ-loop Inv-hashes μ-hashes
-postings-of-requires c κs =
-    let s = c .before .before .before .before .before in
-    (omega arith, s .pre .0 .postings, s .pre .0 .ascend)
+mul-part-at-3 : tie.Need-mul-part-at-3 Inv-loop μ-loop Inv-hashes μ-hashes
+mul-part-at-3 c = search needs
+
+shared-slice-read-part-at : tie.Need-shared-slice-read-part-at Inv-loop μ-loop Inv-hashes μ-hashes
+shared-slice-read-part-at c = search needs
+
+part-at-requires : tie.Need-part-at-requires Inv-loop μ-loop Inv-hashes μ-hashes
+part-at-requires c κs =
+    let l = c .before .before .before in
+    let s = l .before .before .before in
+    (omega arith, s .pre .0 .postings, s .pre .0 .ascend, s .pre .1 .begins (l .hashes .i) (omega arith))
 
 loop-holds : tie.Need-loop-holds Inv-loop μ-loop Inv-hashes μ-hashes
 loop-holds c =
-    let s = c .before .before .before .before .before .before in
-    let key = getD (s .args .hashes .now) (2 * c .before .before .before .hashes .i) 0 in
-    (omega arith, omega arith, ap (λ (l : List ℕ). length l / 3) (c .postings-of .ensures) ∙ part-many 3 (s .args .posts .now) (s .args .p) key (omega arith) (s .pre .0 .postings), omega arith)
+    let s = c .before .before .before .before .before .before .before in
+    let key = getD (s .args .hashes .now) (2 * c .before .before .before .before .hashes .i) 0 in
+    (omega arith, omega arith, ap (λ (l : List ℕ). length l / 3) (c .part-at .ensures) ∙ part-many 3 (s .args .posts .now) (s .args .p) key (omega arith) (s .pre .0 .postings), omega arith)
 
 add-v : tie.Need-add-v Inv-loop μ-loop Inv-hashes μ-hashes
 add-v c = search needs
@@ -70,8 +76,8 @@ hashes-less c = search needs
 
 hashes-again : tie.Need-hashes-again Inv-loop μ-loop Inv-hashes μ-hashes
 hashes-again c =
-    let s = c .before .before .before .before .before .before .before .before in
-    let l = c .before .before .before .before .before .hashes in
+    let s = c .before .before .before .before .before .before .before .before .before in
+    let l = c .before .before .before .before .before .before .hashes in
     (omega (arith, count-more (entries 3 (s .args .p) (s .args .posts .now)) (s .args .hashes .now) (l .i)), omega arith, omega arith)
 
 returns : tie.Need-returns Inv-loop μ-loop Inv-hashes μ-hashes
@@ -83,8 +89,8 @@ returns c =
 
 returns-2 : tie.Need-returns-2 Inv-loop μ-loop Inv-hashes μ-hashes
 returns-2 c =
-    let s = c .before .before .before .before .before .before .before .before .before in
-    let l = c .before .before .before .before .before .before .hashes in
+    let s = c .before .before .before .before .before .before .before .before .before .before in
+    let l = c .before .before .before .before .before .before .before .hashes in
     let es = entries 3 (s .args .p) (s .args .posts .now) in
     omega (arith, count-more es (s .args .hashes .now) (l .i), count-longer es (s .args .hashes .now) (l .i + 1) (s .args .m) (omega arith))
 
@@ -97,10 +103,12 @@ count-votes-spec =
     Inv-hashes
     μ-hashes
     hashes-holds
-    mul-postings-of
-    mul-postings-of-2
-    shared-slice-read-postings-of
-    postings-of-requires
+    mul-part-at
+    element-copy-out-part-at
+    mul-part-at-2
+    mul-part-at-3
+    shared-slice-read-part-at
+    part-at-requires
     loop-holds
     add-v
     add-j

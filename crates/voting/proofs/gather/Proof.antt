@@ -12,12 +12,12 @@ use Rattle.voting.proofs.gather.Statement.{statement}
 use Rattle.voting.proofs.gather.Tie as tie
 
 abbrev Inv-loop : tie.InvT-loop
-Inv-loop s₀ posts p hashes m top v₀ i₀ s v i =
+Inv-loop s₀ posts p hashes m starts top v₀ i₀ s v i =
     (i ≤ m) × (v ≡ voteCount (entries 3 p posts) (entries 2 i hashes)) × (take v s ≡ firsts (pairWord top) (entries 3 p posts) 2 hashes i)
     × (length s ≡ length s₀)
 
 abbrev μ-loop : tie.MeasureT-loop
-μ-loop s₀ posts p hashes m top v₀ i₀ s v i = m - i
+μ-loop s₀ posts p hashes m starts top v₀ i₀ s v i = m - i
 
 loop-holds : tie.Need-loop-holds Inv-loop μ-loop
 loop-holds c = (omega arith, sym (count-none _ _), sym (firsts-none (pairWord _) _ 2 _), refl)
@@ -43,17 +43,23 @@ shared-slice-read-wide c = search needs
 wide-requires : tie.Need-wide-requires Inv-loop μ-loop
 wide-requires c κs = search needs
 
+mul-gather-key : tie.Need-mul-gather-key Inv-loop μ-loop
+mul-gather-key c = search needs
+
+element-copy-out-gather-key : tie.Need-element-copy-out-gather-key Inv-loop μ-loop
+element-copy-out-gather-key c = omega (arith, c .before .before .before .before .before .before .before .before .pre .0 .walk .few)
+
 sub-gather-key : tie.Need-sub-gather-key Inv-loop μ-loop
-sub-gather-key c = omega (arith, c .before .wide .ensures .0, c .before .before .before .before .before .before .before .before .pre .0 .below (c .before .before .before .before .before .loop .i) (omega arith))
+sub-gather-key c = omega (arith, c .before .before .wide .ensures .0, c .before .before .before .before .before .before .before .before .before .pre .0 .below (c .before .before .before .before .before .before .loop .i) (omega arith))
 
 gather-key-requires : tie.Need-gather-key-requires Inv-loop μ-loop
 gather-key-requires c κs =
-    let s = c .before .before .before .before .before .before .before .before in
-    let l = c .before .before .before .before .before .loop in
+    let s = c .before .before .before .before .before .before .before .before .before in
+    let l = c .before .before .before .before .before .before .loop in
     let es = entries 3 (s .args .p) (s .args .posts .now) in
     let a = count-more es (s .args .hashes .now) (l .i) in
     let b = count-longer es (s .args .hashes .now) (l .i + 1) (s .args .m) (omega arith) in
-    (s .pre .0 .walk .postings, s .pre .0 .walk .ascend, s .pre .0 .ids, omega (arith, a, b), omega (arith, s .pre .0 .high), omega (arith, s .pre .0 .short))
+    (s .pre .0 .walk .postings, s .pre .0 .walk .ascend, s .pre .1 .begins (l .i) (omega arith), s .pre .0 .ids, omega (arith, a, b), omega (arith, s .pre .0 .high), omega (arith, s .pre .0 .walk .few))
 
 add-i : tie.Need-add-i Inv-loop μ-loop
 add-i c = search needs
@@ -63,11 +69,11 @@ loop-less c = search needs
 
 loop-again : tie.Need-loop-again Inv-loop μ-loop
 loop-again c =
-    let s = c .before .before .before .before .before .before .before .before .before .before in
-    let l = c .before .before .before .before .before .before .before .loop in
+    let s = c .before .before .before .before .before .before .before .before .before .before .before in
+    let l = c .before .before .before .before .before .before .before .before .loop in
     let es = entries 3 (s .args .p) (s .args .posts .now) in
     let a = count-more es (s .args .hashes .now) (l .i) in
-    let e = rw (c .before .before .before .wide .ensures .0) at (c .before .gather-key .ensures .1) in
+    let e = rw (c .before .before .before .before .wide .ensures .0) at (c .before .gather-key .ensures .1) in
     (omega arith, omega (arith, a, c .before .gather-key .ensures .0), put-hash es (s .args .hashes .now) (s .args .top) (l .i) (take (l .v) (l .s)) _ (l .inv .2) e, c .before .gather-key .kept .0 ∙ l .inv .3)
 
 same-length : tie.Need-same-length Inv-loop μ-loop
@@ -94,6 +100,8 @@ gather-spec =
     mul-wide
     shared-slice-read-wide
     wide-requires
+    mul-gather-key
+    element-copy-out-gather-key
     sub-gather-key
     gather-key-requires
     add-i

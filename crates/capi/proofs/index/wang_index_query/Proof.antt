@@ -1,24 +1,18 @@
 -- `capi::index::wang_index_query` meets its contract. Assumes nothing.
-use mathlib.Core.Path.{_≡_, ap, _∙_}
-use mathlib.Core.List.{List}
-use Prim.Native.Nat.{ℕ}
+use mathlib.Core.Path.{ap₂}
 use lib.ListN.{length}
 use lib.Ieee.{Float}
-use Rattle.model.specs.Query.{Query}
-use Rattle.model.specs.Calls.{query}
-use Rattle.model.specs.Run.{run}
 use Rattle.soundness.specs.Scan.{words}
-use Rattle.ranking.specs.Answers.{scratchAfter}
 use Rattle.judging.specs.declared.WangMatchConfig.{WangMatchConfig}
 use Rattle.judging.specs.Scheme.{wang}
 use Rattle.querying.specs.Asked.{asked}
-use Rattle.capi.specs.Answers.{answerWords}
+use Rattle.capi.proofs.Queries.{query-answered}
 use borrow.Author.Needs.{needs}
 use Rattle.capi.proofs.index.wang_index_query.Statement.{statement}
 use Rattle.capi.proofs.index.wang_index_query.Tie as tie
 
-wang-config-requires : tie.Need-wang-config-requires
-wang-config-requires c κs = search needs
+config-of-requires : tie.Need-config-of-requires
+config-of-requires c κs = search needs
 
 f32-from-bits-requires : tie.Need-f32-from-bits-requires
 f32-from-bits-requires c κs = search needs
@@ -32,23 +26,18 @@ put-finding-requires c κs = search needs
 same-length : tie.Need-same-length
 same-length c = search needs
 
-same : {cfg cfg' : WangMatchConfig} {r r' : Float} (hs : List ℕ) (n : ℕ) → cfg ≡ cfg' → r ≡ r' → asked cfg r hs n ≡ asked cfg' r' hs n
-same hs n e f i = asked (e i) (f i) hs n
-
 returns : tie.Need-returns
 returns c =
     let a = c .before .before .before .before .before .before .before .before .before .before .before .args in
     let k = c .before .before .query in
-    let m = words (a .refs .now) (a .postings .now) (a .stopped .now) in
-    let n = length (a .scratch .now) in
-    let e = same (a .hashes .now) n (c .before .before .before .before .before .before .wang-config .ensures) (c .before .before .before .before .before .f32-from-bits .ensures) in
-    (c .put-finding .ensures ∙ ap (λ x. answerWords x) (k .ensures .0 ∙ ap (λ (q : Query wang). run wang m (query q) .0) e), k .ensures .1 .1 ∙ ap (λ (q : Query wang). scratchAfter (run wang m (query q) .0) (a .scratch .now)) e)
+    let e = ap₂ (λ (g : WangMatchConfig) (r : Float). asked g r (a .hashes .now) (length (a .scratch .now))) (c .before .before .before .before .before .before .config-of .ensures) (c .before .before .before .before .before .f32-from-bits .ensures) in
+    query-answered wang (words (a .refs .now) (a .postings .now) (a .stopped .now)) _ _ e (a .scratch .now) _ _ (k .result) (c .put-finding .ensures) (k .ensures .0) (k .ensures .1 .1)
 
 pub wang-index-query-spec : {M : Type 1} → statement M
 wang-index-query-spec =
     tie.close
     (tie.spec
-    wang-config-requires
+    config-of-requires
     f32-from-bits-requires
     query-requires
     put-finding-requires

@@ -12,8 +12,8 @@ use Rattle.capi.specs.Leaves.{settingsWords}
 use Rattle.capi.proofs.leaves.panako_normalize_config.Statement.{statement}
 use Rattle.capi.proofs.leaves.panako_normalize_config.Tie as tie
 
-settings-of-requires : tie.Need-settings-of-requires
-settings-of-requires c κs = search needs
+panako-config-requires : tie.Need-panako-config-requires
+panako-config-requires c κs = search needs
 
 normalize-config-requires : tie.Need-normalize-config-requires
 normalize-config-requires c κs = search needs
@@ -49,14 +49,14 @@ words cfg c d within min max b e f g h i j = rw (h, i, j, g, ← e, ← f)
 returns : tie.Need-returns
 returns c =
     let n = c .before .before .before .before .before .before in
-    words _ (n .normalize-config .result) _ _ _ _ _ (n .before .settings-of .ensures) (n .normalize-config .ensures) (c .before .before .before .before .before .within-limits .ensures)
+    words _ (n .normalize-config .result) _ _ _ _ _ (n .before .panako-config .ensures) (n .normalize-config .ensures) (c .before .before .before .before .before .within-limits .ensures)
     (c .before .before .before .before .flag-of .ensures) (c .before .before .before .f32-to-bits .ensures) (c .before .before .f32-to-bits2 .ensures)
 
 pub panako-normalize-config-spec : {M : Type 1} → statement M
 panako-normalize-config-spec =
     tie.close
     (tie.spec
-    settings-of-requires
+    panako-config-requires
     normalize-config-requires
     within-limits-requires
     flag-of-requires

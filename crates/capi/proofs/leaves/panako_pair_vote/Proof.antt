@@ -14,8 +14,8 @@ use borrow.Author.Needs.{needs}
 use Rattle.capi.proofs.leaves.panako_pair_vote.Statement.{statement}
 use Rattle.capi.proofs.leaves.panako_pair_vote.Tie as tie
 
-settings-of-requires : tie.Need-settings-of-requires
-settings-of-requires c κs = search needs
+panako-config-requires : tie.Need-panako-config-requires
+panako-config-requires c κs = search needs
 
 checked-vote-requires : tie.Need-checked-vote-requires
 checked-vote-requires c κs = search needs
@@ -50,21 +50,21 @@ found : (r : CheckedVote) (bin : ℕ) (offset : ℤ) (n : ℕ) → r ≡ At bin 
 found r bin offset n e h = rw (e, h)
 
 returns : tie.Need-returns
-returns c = let v = c .before .before .before in refused _ (asked _ _ _ _ _ _ _ _ (v .before .settings-of .ensures) (v .checked-vote .ensures) (c .before .enum-told .given .1))
+returns c = let v = c .before .before .before in refused _ (asked _ _ _ _ _ _ _ _ (v .before .panako-config .ensures) (v .checked-vote .ensures) (c .before .enum-told .given .1))
 
 returns-2 : tie.Need-returns-2
-returns-2 c = let v = c .before .before .before in none _ (asked _ _ _ _ _ _ _ _ (v .before .settings-of .ensures) (v .checked-vote .ensures) (c .before .enum-told2 .given .1))
+returns-2 c = let v = c .before .before .before in none _ (asked _ _ _ _ _ _ _ _ (v .before .panako-config .ensures) (v .checked-vote .ensures) (c .before .enum-told2 .given .1))
 
 returns-3 : tie.Need-returns-3
 returns-3 c =
-    found _ (c .before .before .before .bin .given .0 .0) (c .before .before .before .bin .given .0 .1 .0) (c .before .word-of .result) (let v = c .before .before .before .before .before in asked _ _ _ _ _ _ _ _ (v .before .settings-of .ensures) (v .checked-vote .ensures) (c .before .before .before .bin .given .1))
+    found _ (c .before .before .before .bin .given .0 .0) (c .before .before .before .bin .given .0 .1 .0) (c .before .word-of .result) (let v = c .before .before .before .before .before in asked _ _ _ _ _ _ _ _ (v .before .panako-config .ensures) (v .checked-vote .ensures) (c .before .before .before .bin .given .1))
     (written (c .before .before .before .bin .given .0 .1 .0) (c .before .word-of .result) (c .before .before .known-told .given .1 .0 .1) (c .before .word-of .ensures))
 
 pub panako-pair-vote-spec : {M : Type 1} → statement M
 panako-pair-vote-spec =
     tie.close
     (tie.spec
-    settings-of-requires
+    panako-config-requires
     checked-vote-requires
     enum-told
     enum-told-2

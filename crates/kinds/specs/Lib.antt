@@ -1,0 +1,2 @@
+-- The kinds of records.
+pub mod Kinds

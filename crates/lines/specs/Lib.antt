@@ -1,0 +1,2 @@
+-- The lines of answers.
+pub mod Lines

@@ -1,0 +1,3 @@
+-- Laws of the search for all hashes together.
+pub mod Steps
+pub mod Levels

@@ -1,0 +1,2 @@
+-- Where the postings of each query hash begin.
+pub mod Starts

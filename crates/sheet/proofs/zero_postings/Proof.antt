@@ -1,0 +1,12 @@
+-- `sheet::zero_postings` meets its contract. Assumes nothing.
+use Rattle.card.specs.Sheet.{zeroed, emptyStore}
+use mathlib.Core.Path.{refl}
+use Rattle.sheet.proofs.zero_postings.Statement.{statement}
+use Rattle.sheet.proofs.zero_postings.Tie as tie
+
+returns : tie.Need-returns
+unfolding zeroed emptyStore
+returns c = refl
+
+pub zero-postings-spec : {M : Type 1} → statement M
+zero-postings-spec = tie.close (tie.spec returns)
