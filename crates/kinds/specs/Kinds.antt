@@ -6,11 +6,10 @@ use Prim.Native.Nat.{ℕ, _+_, _*_, _%_}
 use lib.IntN.{ℤ, pos}
 use lib.ListN.{getD, drop, replicate}
 use lib.Dec.{eqb, leb}
-use lib.Ieee.{Float, binary32, ofBits}
+use lib.Ieee.{binary32, ofBits}
 use Rattle.model.specs.Query.{Query}
 use Rattle.model.specs.Calls.{Call, insert, remove, query}
-use Rattle.judging.specs.declared.WangMatchConfig.{WangMatchConfig}
-use Rattle.judging.specs.Scheme.{wang}
+use Rattle.judging.specs.Scheme.{configOf, wang}
 use Rattle.querying.specs.Asked.{asked}
 
 -- "scratch for 512 votes", 6 words each
@@ -35,16 +34,9 @@ insertCall ws = insert (getD ws 0 0) (getD ws 1 0) (drop 2 ws)
 abbrev pub removeCall : List ℕ → Call wang
 removeCall ws = remove (getD ws 0 0)
 
-abbrev pub single : ℕ → Float
-single word = ofBits binary32 word
-
-abbrev pub configOf : ℕ → ℕ → ℕ → ℕ → WangMatchConfig
-configOf tolerance votes score prominence =
-    record { «offset_tolerance_frames» = tolerance; «min_votes» = votes; «min_score» = single score; «min_prominence» = single prominence }
-
 -- "03 query: tolerance, min_votes, min_score bits, min_prominence bits, rate bits, hashes."
 abbrev pub queryOf : List ℕ → Query wang
-queryOf ws = asked (configOf (getD ws 0 0) (getD ws 1 0) (getD ws 2 0) (getD ws 3 0)) (single (getD ws 4 0)) (drop 5 ws) scratchWords
+queryOf ws = asked (configOf (getD ws 0 0) (getD ws 1 0) (getD ws 2 0) (getD ws 3 0)) (ofBits binary32 (getD ws 4 0)) (drop 5 ws) scratchWords
 
 abbrev pub queryCall : List ℕ → Call wang
 queryCall ws = query (queryOf ws)

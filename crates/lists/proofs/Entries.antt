@@ -8,7 +8,7 @@ use native.Mathlib.Nat.{mul-zero, mul-suc, mul-add, add-comm, add-zero, zero-add
 use native.Mathlib.Numerals.{add-one}
 use native.Mathlib.Omega.{arith}
 use lib.ListN.{length, getD, take, drop, replicate, length-drop, length-append, length-replicate, take-append-drop, List·getD-eq-default, replicate-append-replicate}
-use lib.Seq.{take-at, drop-at, take-add, take-take, take-nil, drop-drop, getD-take, getD-drop, getD-append-add, length-take-le, ext-getD}
+use lib.Seq.{take-all, take-at, drop-at, take-add, take-take, take-nil, drop-drop, getD-take, getD-drop, getD-append-add, length-take-le, ext-getD}
 use lib.Dec.{leb}
 use borrow.Author.Tests.{eqb-true, eq-eqb, leb-true, le-leb}
 use Rattle.lists.specs.Lists.{keep, All, flat}
@@ -19,6 +19,10 @@ use Rattle.lists.proofs.Tests.{test, le-or-lt}
 use Rattle.lists.proofs.Every.{every-at, every-make}
 use Rattle.lists.proofs.Keep.{keep-append, keep-one, flat-append, flat-one, all-make, all-at}
 use Rattle.lists.proofs.Place.{sorted-make, sorted-at}
+
+-- what is left of a list behind its first k words
+pub rest-all : (s : List ℕ) (k : ℕ) → take (length s - k) (drop k s) ≡ drop k s
+rest-all s k = take-all (length s - k) (drop k s) (simp length-drop (omega arith))
 
 -- ---- strides
 

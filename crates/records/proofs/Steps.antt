@@ -1,12 +1,10 @@
 -- Laws of the step on a record. Assumes nothing.
 use mathlib.Core.Path.{_≡_, sym, ap, _∙_}
 use mathlib.Core.List.{List}
-use Prim.Native.Nat.{ℕ, _-_}
-use native.Mathlib.Omega.{arith}
+use Prim.Native.Nat.{ℕ}
 use lib.IntN.{ℤ, pos}
 use lib.Ieee.{Float}
-use lib.ListN.{length, getD, take, drop, replicate, length-drop, length-replicate}
-use lib.Seq.{take-all}
+use lib.ListN.{length, getD, replicate, length-replicate}
 use Rattle.model.specs.Calls.{Answer, built, stored, removed, count, best, nothing, refused, query}
 use Rattle.model.specs.Query.{Query}
 use Rattle.model.specs.Run.{run}
@@ -22,10 +20,6 @@ use Rattle.records.specs.Step.{lineAndStore, stepBy, stepOf}
 use Rattle.kinds.specs.Kinds.{queryOf, queryCall, scratchWords, zeroScratch, kindOf}
 
 -- ---- what a call leaves
-
--- what is left of a list behind its first k words
-pub rest-all : (s : List ℕ) (k : ℕ) → take (length s - k) (drop k s) ≡ drop k s
-rest-all s k = take-all (length s - k) (drop k s) (simp length-drop (omega arith))
 
 -- an outcome o that is o': its line, and the three slices as its store
 pub done : (ws rs ps ss : List ℕ) (a : Answer) (o o' : Answer × Words) → o ≡ o' → a ≡ o .0 → rs ≡ o .1 .references → ps ≡ o .1 .postings → ss ≡ o .1 .stopped

@@ -6,10 +6,9 @@ ghost use lib.ListN.{length, getD};
 ghost use Rattle.model.specs.Run.{run};
 ghost use Rattle.soundness.specs.Scan.{words};
 ghost use Rattle.judging.specs.Scheme.{wang};
-ghost use Rattle.kinds.specs.Kinds.{zeroScratch, insertCall, removeCall, queryCall, configOf, kindOf, goodLength};
+ghost use Rattle.kinds.specs.Kinds.{zeroScratch, insertCall, removeCall, queryCall, kindOf, goodLength};
 ghost use Rattle.records.specs.Step.{lineAndStore, stepBy, stepOf};
 ghost use Rattle.text.specs.Put.{Put};
-use judging::WangMatchConfig;
 use wang::WangIndex;
 
 // 01: limit, rate bits, hashes.
@@ -51,17 +50,6 @@ fn remove_record(
     lines::put_removal(line, at, id, answer)
 }
 
-fn config(tolerance: u32, min_votes: u32, min_score: u32, min_prominence: u32) -> WangMatchConfig
-    ensures { λ r. ⌜ r ≡ configOf tolerance «min_votes» «min_score» «min_prominence» ⌝ }
-{
-    WangMatchConfig {
-        offset_tolerance_frames: tolerance,
-        min_votes,
-        min_score: floats::f32_from_bits(min_score),
-        min_prominence: floats::f32_from_bits(min_prominence),
-    }
-}
-
 // 03: tolerance, min_votes, min_score bits, min_prominence bits, rate bits, hashes.
 fn query_record(
     fields: &[u32],
@@ -79,7 +67,7 @@ fn query_record(
     ensures { λ _. ⌜ words (now (refs .entry)) (now (postings .entry)) (now (stopped .entry)) ≡ run wang (words (now (refs .entry)) (now (postings .entry)) (now (stopped .entry))) (queryCall (now (fields .entry))) .1 ⌝ }
     ensures { λ _. ⌜ now (scratch .exit) ≡ zeroScratch ⌝ }
 {
-    let cfg = config(fields[0], fields[1], fields[2], fields[3]);
+    let cfg = judging::config_of(fields[0], fields[1], fields[2], fields[3]);
     let rate = floats::f32_from_bits(fields[4]);
     let answer = WangIndex::query(refs, postings, stopped, scratch, &fields[5..], rate, cfg);
     lines::put_finding(line, at, answer)

@@ -5,8 +5,8 @@ use mathlib.Core.List.{List}
 use Prim.Native.Nat.{ℕ, _+_, _-_}
 use native.Mathlib.Omega.{arith}
 use borrow.Author.Tests.{ne-eqb}
-use lib.ListN.{length, getD, take, drop, length-drop}
-use lib.Seq.{take-all}
+use lib.ListN.{length, getD, take, drop}
+use Rattle.lists.proofs.Entries.{rest-all}
 use Rattle.model.specs.Calls.{Answer, query}
 use Rattle.model.specs.Words.{Words}
 use Rattle.model.specs.Run.{run, runBuild, runInsert, runRemove}
@@ -15,10 +15,6 @@ use Rattle.judging.specs.Scheme.{wang}
 use Rattle.panako_judging.specs.Scheme.{panako}
 use Rattle.capi.specs.Answers.{answerWords, wangAsked, panakoAsked}
 use Rattle.replay.specs.Outcomes.{widthOf, buildOutcome, insertOutcome, removeOutcome, found, queryOutcome, outcome, Ran}
-
--- what is left of a list behind its first k words
-pub rest-all : (s : List ℕ) (k : ℕ) → take (length s - k) (drop k s) ≡ drop k s
-rest-all s k = take-all (length s - k) (drop k s) (simp length-drop (omega arith))
 
 -- an outcome o that is o'
 pub ran-by : {a rs ps ss : List ℕ} (o o' : Answer × Words) → o ≡ o' → a ≡ answerWords (o .0) → rs ≡ o .1 .references → ps ≡ o .1 .postings

@@ -1,5 +1,6 @@
 -- `records::insert_record` meets its contract. Assumes nothing.
-use Rattle.records.proofs.Steps.{rest-all, done}
+use Rattle.records.proofs.Steps.{done}
+use Rattle.lists.proofs.Entries.{rest-all}
 use Rattle.insertion.specs.Insert.{insertionAnswer}
 use Rattle.model.specs.Calls.{insert}
 use Rattle.text.proofs.Puts.{as-text}

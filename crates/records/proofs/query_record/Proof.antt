@@ -1,5 +1,6 @@
 -- `records::query_record` meets its contract. Assumes nothing.
-use Rattle.records.proofs.Steps.{rest-all, same-asked, zeros-length, query-done}
+use Rattle.records.proofs.Steps.{same-asked, zeros-length, query-done}
+use Rattle.lists.proofs.Entries.{rest-all}
 use Rattle.querying.specs.Asked.{asked}
 use Rattle.ranking.specs.Answers.{findingAnswer}
 use lib.ListN.{length, getD, take, drop}
@@ -11,20 +12,20 @@ use borrow.Author.Needs.{needs}
 use Rattle.records.proofs.query_record.Statement.{statement}
 use Rattle.records.proofs.query_record.Tie as tie
 
-shared-slice-read-config : tie.Need-shared-slice-read-config
-shared-slice-read-config c = search needs
+shared-slice-read-config-of : tie.Need-shared-slice-read-config-of
+shared-slice-read-config-of c = search needs
 
-shared-slice-read-config-2 : tie.Need-shared-slice-read-config-2
-shared-slice-read-config-2 c = search needs
+shared-slice-read-config-of-2 : tie.Need-shared-slice-read-config-of-2
+shared-slice-read-config-of-2 c = search needs
 
-shared-slice-read-config-3 : tie.Need-shared-slice-read-config-3
-shared-slice-read-config-3 c = search needs
+shared-slice-read-config-of-3 : tie.Need-shared-slice-read-config-of-3
+shared-slice-read-config-of-3 c = search needs
 
-shared-slice-read-config-4 : tie.Need-shared-slice-read-config-4
-shared-slice-read-config-4 c = search needs
+shared-slice-read-config-of-4 : tie.Need-shared-slice-read-config-of-4
+shared-slice-read-config-of-4 c = search needs
 
-config-requires : tie.Need-config-requires
-config-requires c κs = search needs
+config-of-requires : tie.Need-config-of-requires
+config-of-requires c κs = search needs
 
 shared-slice-read-f32-from-bits : tie.Need-shared-slice-read-f32-from-bits
 shared-slice-read-f32-from-bits c = search needs
@@ -58,8 +59,8 @@ returns c = let a = c .before .before .before .before .before .before .before .b
     let k = c .before .before .before .before .before .query .ensures in
     let p = c .before .before .put-finding .ensures in
     let z = c .before .before .before .before .before .before .before .before .before .before .before .before .before .before .before .before .before .before .before .before .pre .1 in
-    let q = asked (c .before .before .before .before .before .before .before .before .before .before .config .result) (c .before .before .before .before .before .before .before .before .f32-from-bits .result) (take (length f - 5) (drop 5 f)) (length (now (a .scratch))) in
-    let e = same-asked (c .before .before .before .before .before .before .before .before .before .before .config .ensures) (c .before .before .before .before .before .before .before .before .f32-from-bits .ensures) (rest-all f 5) (zeros-length (now (a .scratch)) z) in
+    let q = asked (c .before .before .before .before .before .before .before .before .before .before .config-of .result) (c .before .before .before .before .before .before .before .before .f32-from-bits .result) (take (length f - 5) (drop 5 f)) (length (now (a .scratch))) in
+    let e = same-asked (c .before .before .before .before .before .before .before .before .before .before .config-of .ensures) (c .before .before .before .before .before .before .before .before .f32-from-bits .ensures) (rest-all f 5) (zeros-length (now (a .scratch)) z) in
     let d = query-done f (words (now (a .refs)) (now (a .postings)) (now (a .stopped))) q (findingAnswer (c .before .before .before .before .before .query .result)) (now (a .scratch)) _ e z (k .0) (k .1 .0) (k .1 .1) in
     (as-text (p .0 (getD f 0 0)) (d .0), (p .1, (d .1, d .2)))
 
@@ -67,11 +68,11 @@ pub query-record-spec : {M : Type 1} → statement M
 query-record-spec =
     tie.close
     (tie.spec
-    shared-slice-read-config
-    shared-slice-read-config-2
-    shared-slice-read-config-3
-    shared-slice-read-config-4
-    config-requires
+    shared-slice-read-config-of
+    shared-slice-read-config-of-2
+    shared-slice-read-config-of-3
+    shared-slice-read-config-of-4
+    config-of-requires
     shared-slice-read-f32-from-bits
     f32-from-bits-requires
     sub-query

@@ -1,0 +1,92 @@
+-- Worked examples of demand 3, for any scheme: what one call does to the answer of one query. The table is one; an index gives the hashes
+-- and the query (its specs/Examples.antt), and the answers are computed from the definitions, soundness and layout of the words included.
+-- Definitions only. Assumes nothing.
+use mathlib.Core.Bool.{Bool, true, false, _&&_}
+use mathlib.Core.List.{List, [], _∷_, _++_}
+use mathlib.Core.Option.{Option, none, some}
+use Prim.Native.Nat.{ℕ, _*_}
+use lib.Dec.{eqb}
+use lib.ListN.{replicate}
+use Rattle.model.specs.Query.{Scheme, Query}
+use Rattle.model.specs.Calls.{Answer, built, stored, removed, count, best, nothing, refused, Call, build, insert, remove, query}
+use Rattle.model.specs.Words.{Words}
+use Rattle.model.specs.Run.{run}
+use Rattle.model.specs.History.{leaves}
+
+-- the best recording and its votes
+abbrev pub told : Answer → Option (ℕ × ℕ)
+told built = none
+told (stored id) = none
+told (removed b) = none
+told (count n) = none
+told (best id r) = some (id, r .votes)
+told nothing = none
+told (refused n) = none
+
+abbrev pub same : Option (ℕ × ℕ) → Option (ℕ × ℕ) → Bool
+same none none = true
+same none (some b) = false
+same (some a) none = false
+same (some a) (some b) = eqb (a .0) (b .0) && eqb (a .1) (b .1)
+
+-- 62.5 frames a second
+abbrev pub rate : ℕ
+rate = 0x427A_0000
+
+module _ (S : Scheme) where
+  -- the words of three recordings' hashes, and a query at `rate` that meets the first by both of its hashes, the second by one, the third by
+  -- none. Both hashes of the first have other keys, the first hash's key being the second's too.
+  pub record Material : Type 0 where
+    pub both : List ℕ
+    pub one : List ℕ
+    pub other : List ℕ
+    pub asked : Query S
+
+  pub data Example : Type 0 where
+    -- after these calls; the next call; what the query answers before it, and after it
+    change : List (Call S) → Call S → Option (ℕ × ℕ) → Option (ℕ × ℕ) → Example
+
+  -- zeroed slices: R 3, P 6, K 2
+  abbrev pub blank : Words
+  blank = record { references = replicate 16 0; postings = replicate (6 * S .width) 0; stopped = replicate 2 0 }
+
+  abbrev pub answer : Query S → List (Call S) → Option (ℕ × ℕ)
+  answer q calls = told (run S (leaves S (run S) blank calls) (query q) .0)
+
+  abbrev pub right : Query S → Example → Bool
+  right q (change before x was is) = same (answer q before) was && same (answer q (before ++ x ∷ [])) is
+
+  abbrev pub all : Query S → List Example → Bool
+  all q [] = true
+  all q (e ∷ es) = right q e && all q es
+
+  abbrev pub store : List ℕ → Call S
+  store hashes = insert 100 rate hashes
+
+  abbrev pub table : Material → List Example
+  table t =
+      -- a newcomer that wins: two votes against one
+      change (store (t .one) ∷ []) (store (t .both)) (some (0, 1)) (some (1, 2))
+      -- one that loses
+      ∷ change (store (t .both) ∷ []) (store (t .one)) (some (0, 2)) (some (0, 2))
+      -- one that ties and has the higher id: the old answer stays
+      ∷ change (store (t .both) ∷ []) (store (t .both)) (some (0, 2)) (some (0, 2))
+      -- one that ties and has the lower id, since 0 was vacated: it is the answer
+      ∷ change (store (t .other) ∷ store (t .both) ∷ remove 0 ∷ []) (store (t .both)) (some (1, 2)) (some (0, 2))
+      -- one without a vote
+      ∷ change (store (t .both) ∷ []) (store (t .other)) (some (0, 2)) (some (0, 2))
+      -- the first of all
+      ∷ change [] (store (t .one)) none (some (0, 1))
+      -- the removal of another recording, and of the one that was the answer
+      ∷ change (store (t .both) ∷ store (t .one) ∷ []) (remove 1) (some (0, 2)) (some (0, 2))
+      ∷ change (store (t .both) ∷ store (t .one) ∷ []) (remove 0) (some (0, 2)) (some (1, 1))
+      -- an insert that stops the second's key, on which recording 0 holds a hash: the premise fails, and the old answer changes
+      ∷ change (store (t .both) ∷ []) (insert 1 rate (t .one)) (some (0, 2)) (some (0, 1))
+      -- an insert that is refused: no row is left
+      ∷ change (store (t .both) ∷ store (t .both) ∷ store (t .one) ∷ []) (store (t .both)) (some (0, 2)) (some (0, 2))
+      -- a build, after which what was stored before is gone
+      ∷ change (store (t .both) ∷ []) (build 100 (t .one ++ t .both) (1 ∷ 2 ∷ []) (rate ∷ rate ∷ [])) (some (0, 2)) (some (1, 2))
+      ∷ []
+
+  abbrev pub allRight : Material → Bool
+  allRight t = all (t .asked) (table t)
