@@ -12,8 +12,9 @@ use std::time::Duration;
 /// The default of the reference's settings.
 const LIMIT: u32 = 100;
 
-/// Turns of a query's measurement.
-const QUERY_TURNS: usize = 101;
+/// Turns of a query's measurement. The rest of a query is a small difference
+/// of two large times at the depots, so they are many.
+const QUERY_TURNS: usize = 501;
 
 /// The same, where a candidate has many votes.
 const SPREAD_TURNS: usize = 21;
@@ -263,18 +264,19 @@ fn measure<I: Index>(card: Card) -> Times {
 fn queries(only: Option<&str>) {
     let asked = |name: &str| only.is_none_or(|only| name.contains(only));
     let mut rows = Vec::new();
-    for (card, hashes) in [
-        (SCHOOL, 30),
-        (LARGE[0], 300),
-        (LARGE[0], 2048),
-        (LARGE[1], 300),
-        (LARGE[1], 2048),
+    for (card, hashes, room) in [
+        (SCHOOL, 30, Room::Met),
+        (SCHOOL, 30, Room::Sheet),
+        (LARGE[0], 300, Room::Met),
+        (LARGE[0], 2048, Room::Met),
+        (LARGE[1], 300, Room::Met),
+        (LARGE[1], 2048, Room::Met),
     ] {
         if asked("Wang query") {
-            rows.extend(measure_queries::<Wang>("WangIndex", card, hashes));
+            rows.extend(measure_queries::<Wang>("WangIndex", card, hashes, room));
         }
         if asked("Panako query") {
-            rows.extend(measure_queries::<Panako>("PanakoIndex", card, hashes));
+            rows.extend(measure_queries::<Panako>("PanakoIndex", card, hashes, room));
         }
     }
     for hashes in [500, 1000, 2000] {
@@ -290,10 +292,10 @@ fn queries(only: Option<&str>) {
     }
     println!();
     println!(
-        "| query | lists | hashes | postings met | ours, µs | scan, µs | rest, µs | Rust, µs \
-         | rest / Rust | ours / Rust |"
+        "| query | lists | hashes | postings met | scratch for | ours, µs | scan, µs | rest, µs \
+         | Rust, µs | rest / Rust | ours / Rust |"
     );
-    println!("|---|---|---|---|---|---|---|---|---|---|");
+    println!("|---|---|---|---|---|---|---|---|---|---|---|");
     rows.iter().for_each(|row| println!("{row}"));
 }
 
@@ -318,6 +320,31 @@ fn heard<I: Index>(rng: &mut Rng, card: Card, list: &[u32], hashes: usize) -> Ve
 fn median(mut times: Vec<f64>) -> f64 {
     times.sort_unstable_by(f64::total_cmp);
     times[times.len() / 2]
+}
+
+/// How many votes the lent scratch has words for.
+#[derive(Clone, Copy)]
+enum Room {
+    /// The postings met, rounded up to a power of two.
+    Met,
+    /// "scratch for 512 votes", as the sheet has it.
+    Sheet,
+}
+
+impl Room {
+    fn votes(self, met: usize) -> usize {
+        match self {
+            Room::Met => met.next_power_of_two(),
+            Room::Sheet => 512,
+        }
+    }
+
+    fn name(self) -> &'static str {
+        match self {
+            Room::Met => "those met",
+            Room::Sheet => "512",
+        }
+    }
 }
 
 /// What is asked of both sides: the words of the hashes, the same as the
@@ -381,12 +408,15 @@ impl<I: Index> Sides<I> {
             let asked = ask();
             let words = asked.iter().map(|asked| asked.scratch).max();
             scratch.resize(words.expect("there are queries"), 0);
-            let mut took = [f64::INFINITY; 3];
-            timed(&mut took[0], asked.len(), || {
-                asked.iter().fold(counted(0), |_, _| {
-                    live_count(black_box(self.store.slices()))
+            let mut took = [f64::INFINITY; 4];
+            let scan = |least: &mut f64| {
+                timed(least, asked.len(), || {
+                    asked.iter().fold(counted(0), |_, _| {
+                        live_count(black_box(self.store.slices()))
+                    })
                 })
-            });
+            };
+            scan(&mut took[0]);
             let ours: Vec<Answer> = timed(&mut took[1], asked.len(), || {
                 let ask = |asked: &Asked<I>| {
                     let scratch = &mut scratch[..asked.scratch];
@@ -394,7 +424,8 @@ impl<I: Index> Sides<I> {
                 };
                 asked.iter().map(ask).collect()
             });
-            let rust: Vec<_> = timed(&mut took[2], asked.len(), || {
+            scan(&mut took[2]);
+            let rust: Vec<_> = timed(&mut took[3], asked.len(), || {
                 let ask = |asked: &Asked<I>| self.index.query(&asked.fingerprint, &config);
                 asked.iter().map(ask).collect()
             });
@@ -402,7 +433,8 @@ impl<I: Index> Sides<I> {
                 ours.into_iter().eq(rust.into_iter().map(found)),
                 "both sides answer the same"
             );
-            let [scan, ours, rust] = took;
+            let [before, ours, after, rust] = took;
+            let scan = (before + after) / 2.0;
             for (times, took) in times.iter_mut().zip([ours, scan, ours - scan, rust]) {
                 times.push(took);
             }
@@ -411,11 +443,19 @@ impl<I: Index> Sides<I> {
     }
 }
 
-fn query_row(name: &str, lists: &str, hashes: usize, met: f64, times: [f64; 4]) -> String {
+fn query_row(
+    name: &str,
+    lists: &str,
+    hashes: usize,
+    met: f64,
+    room: Room,
+    times: [f64; 4],
+) -> String {
     let [ours, scan, rest, rust] = times;
     let micros = |ns: f64| format!("{:.*}", if ns < 1e5 { 2 } else { 0 }, ns / 1e3);
     format!(
-        "| `{name}::query` | {lists} | {hashes} | {met:.0} | {} | {} | {} | {} | {:.2} | {:.2} |",
+        "| `{name}::query` | {lists} | {hashes} | {met:.0} | {} | {} | {} | {} | {} | {:.2} | {:.2} |",
+        room.name(),
         micros(ours),
         micros(scan),
         micros(rest),
@@ -427,7 +467,7 @@ fn query_row(name: &str, lists: &str, hashes: usize, met: f64, times: [f64; 4]) 
 
 /// A row of the table, if the library has this query: both sides in turn on
 /// the same content, each turn with other queries.
-fn measure_queries<I: Index>(name: &str, card: Card, hashes: usize) -> Option<String> {
+fn measure_queries<I: Index>(name: &str, card: Card, hashes: usize, room: Room) -> Option<String> {
     let rng = &mut Rng(1);
     let lists: Vec<Vec<u32>> = (0..card.lists).map(|_| list::<I>(rng, card)).collect();
     let sides = Sides::<I>::of(&lists, card.sizes);
@@ -438,12 +478,12 @@ fn measure_queries<I: Index>(name: &str, card: Card, hashes: usize) -> Option<St
             let hashes = heard::<I>(rng, card, &lists[id], hashes);
             let postings = sides.met(&hashes);
             met.push(postings as f64);
-            Asked::new(hashes, postings.next_power_of_two().max(512))
+            Asked::new(hashes, room.votes(postings))
         };
         (0..card.batch).map(&mut ask).collect()
     })?;
     let met = met.iter().sum::<f64>() / met.len() as f64;
-    Some(query_row(name, card.name, hashes, met, times))
+    Some(query_row(name, card.name, hashes, met, room, times))
 }
 
 /// Hashes under one key, `apart` frames apart.
@@ -465,13 +505,17 @@ fn measure_spread<I: Index>(name: &str, hashes: usize) -> Option<String> {
     let sides = Sides::<I>::of(&[under_one_key::<I>(postings, 1 << 12)], SCHOOL.sizes);
     let votes = postings * hashes;
     let times = sides.measure(SPREAD_TURNS, || {
-        vec![Asked::new(under_one_key::<I>(hashes, 1), votes)]
+        vec![Asked::new(
+            under_one_key::<I>(hashes, 1),
+            Room::Met.votes(votes),
+        )]
     })?;
     Some(query_row(
         name,
         "1 × 100, one key",
         hashes,
         votes as f64,
+        Room::Met,
         times,
     ))
 }

@@ -11,7 +11,7 @@ ghost use mathlib.Core.Bool.{_||_};
 ghost use Prim.Native.Nat.{ℕ, _+_, _-_, _*_, _<_, _≤_, _^_};
 ghost use lib.ListN.{length, getD};
 ghost use lib.IntN.{pos};
-ghost use lib.Dec.{leb};
+ghost use lib.Dec.{leb, ltb};
 ghost use Rattle.lists.specs.Every.{every};
 ghost use Rattle.consolidate.specs.Windows.{Passed, Slides, Covers};
 ghost use Rattle.hough.specs.Hough.{scale, offset, votes, dist, far, houghSum, houghPeak, peakOffset, farSum, farCount, meanOf, prominence};
@@ -247,8 +247,23 @@ fn more(b: Background, far: bool, v: u64) -> Background
     b
 }
 
-// The background of bin a.
-fn background_of(s: &[i64], n: usize, tol: u64, a: usize) -> Background
+// Whether a bin is out of the reach of bin a.
+fn any_far(s: &[i64], n: usize, tol: u64, a: usize) -> bool
+    requires { ⌜ Bins (now s) n × (tol ≤ 65535) × (a < n) ⌝ }
+    ensures { λ r. ⌜ r ≡ ltb 0 (farCount (now (s .entry)) n tol a) ⌝ }
+{
+    let mut i: usize = 0;
+    while i < n {
+        if is_far(s, n, tol, a, i) {
+            return true;
+        }
+        i += 1;
+    }
+    false
+}
+
+// The background of bin a, by a walk over all bins.
+fn far_sums(s: &[i64], n: usize, tol: u64, a: usize) -> Background
     requires { ⌜ Bins (now s) n × (tol ≤ 65535) × (a < n) ⌝ }
     ensures { λ r. ⌜ (r .sum ≡ farSum (now (s .entry)) n tol a) × (r .count ≡ farCount (now (s .entry)) n tol a) ⌝ }
 {
@@ -261,6 +276,18 @@ fn background_of(s: &[i64], n: usize, tol: u64, a: usize) -> Background
         i += 1;
     }
     b
+}
+
+// The background of bin a. Where all bins are within its reach, as in most small candidates, no sum
+// is worked out again.
+fn background_of(s: &[i64], n: usize, tol: u64, a: usize) -> Background
+    requires { ⌜ Bins (now s) n × (tol ≤ 65535) × (a < n) ⌝ }
+    ensures { λ r. ⌜ (r .sum ≡ farSum (now (s .entry)) n tol a) × (r .count ≡ farCount (now (s .entry)) n tol a) ⌝ }
+{
+    if any_far(s, n, tol, a) {
+        return far_sums(s, n, tol, a);
+    }
+    Background { sum: 0, count: 0 }
 }
 
 fn mean(b: Background) -> f32

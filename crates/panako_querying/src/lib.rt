@@ -6,7 +6,7 @@ ghost use Rattle.model.specs.Fingerprints.{hashesOf};
 ghost use Rattle.model.specs.Run.{runQuery};
 ghost use Rattle.soundness.specs.Scan.{words};
 ghost use Rattle.ranking.specs.Answers.{bestSoFar, findingAnswer, scratchAfter};
-ghost use Rattle.seeking.specs.Starts.{Starts};
+ghost use Rattle.seeking.specs.Starts.{Starts, Ends, Zeros};
 ghost use Rattle.panako_vote.specs.Grids.{gridOf};
 ghost use Rattle.panako_judging.specs.Scheme.{queryOf, panako};
 ghost use Rattle.panako_querying.specs.Asked.{asked};
@@ -39,45 +39,73 @@ fn best_of(s: &mut [i64], v: usize, refs: &[u32], q: PanakoQuery) -> Best
     best
 }
 
-// The best candidate by the votes of the query's hashes, which are gathered and sorted in the scratch. `starts` says where the postings of
-// each hash begin, `g` is the scale grid.
+// The best candidate by the votes of the query's hashes, which are gathered and sorted in the scratch. `starts` and `ends` say where the
+// postings of each hash begin and end, `g` is the scale grid.
 fn best_candidate(
     s: &mut [i64],
     refs: &[u32],
     posts: &[u32],
     p: usize,
     hashes: &[u32],
-    starts: &[u32; 2048],
+    starts: &[u32],
+    ends: &[u32],
     q: PanakoQuery,
     g: ScaleGrid,
 ) -> Best
     requires { ⌜ Posted (now refs) (now posts) (now hashes) q × (p ≡ getD (now refs) 2 0) × (g ≡ gridOf (q .cfg))
         × (length (wordsIn q (now refs) (now posts) (now hashes)) ≤ 1000000) × (5 * length (wordsIn q (now refs) (now posts) (now hashes)) ≤ length (now s))
-        × Starts (now posts) 5 p (now hashes) 4 (q .«q_len») (now starts) ⌝ }
+        × Starts (now posts) 5 p (now hashes) 4 (q .«q_len») (now starts) × Ends (now posts) 5 p (now hashes) 4 (q .«q_len») (now ends)
+        × (q .«q_len» ≤ length (now starts)) × (q .«q_len» ≤ length (now ends)) ⌝ }
     ensures { λ r. ⌜ bestSoFar r ≡ bestIn q (now (refs .entry)) (wordsIn q (now (refs .entry)) (now (posts .entry)) (now (hashes .entry))) ⌝ }
 {
-    let v = panako_voting::gather(s, posts, p, hashes, q.q_len, starts, g);
+    let v = panako_voting::gather(s, posts, p, hashes, q.q_len, starts, ends, g);
     sorting::sort_words(s, v);
     best_of(s, v, refs, q)
 }
 
-// The answer of a query to which no refusal before 8 applies. An accepted one leaves zeros in the scratch.
-fn search(s: &mut [i64], refs: &[u32], posts: &[u32], hashes: &[u32], q: PanakoQuery) -> Finding
-    requires { ⌜ Posted (now refs) (now posts) (now hashes) q × (length (now s) / 12 ≤ 1000000) ⌝ }
+// The answer of a query to which no refusal before 8 applies. An accepted one leaves zeros in the scratch. `starts` comes in with zeros.
+fn search_in(
+    s: &mut [i64],
+    refs: &[u32],
+    posts: &[u32],
+    hashes: &[u32],
+    q: PanakoQuery,
+    starts: &mut [u32],
+    ends: &mut [u32],
+) -> Finding
+    requires { ⌜ Posted (now refs) (now posts) (now hashes) q × (length (now s) / 12 ≤ 1000000) × Zeros (q .«q_len») (now starts) × (q .«q_len» ≤ length (now ends)) ⌝ }
     ensures { λ r. ⌜ findingAnswer r ≡ answerIn q (length (now (s .entry)) / 12) (now (refs .entry)) (now (posts .entry)) (now (hashes .entry)) ⌝ }
     ensures { λ _. ⌜ now (s .exit) ≡ scratchAfter (answerIn q (length (now (s .entry)) / 12) (now (refs .entry)) (now (posts .entry)) (now (hashes .entry))) (now (s .entry)) ⌝ }
 {
     let room = s.len() / 12;
     let p = rows::header(refs).postings;
     let g = panako_vote::scale_grid(q.cfg);
-    let mut starts = [0u32; 2048];
-    seeking::seek(&mut starts, posts, 5, p, hashes, 4, q.q_len);
-    if room < panako_voting::count_votes(posts, p, hashes, q.q_len, &starts, g, room) {
+    seeking::seek(starts, posts, 5, p, hashes, 4, q.q_len);
+    if !panako_voting::fits(ends, posts, p, hashes, q.q_len, starts, g, room) {
         return Finding::Refused(8);
     }
-    let best = best_candidate(s, refs, posts, p, hashes, &starts, q, g);
+    let best = best_candidate(s, refs, posts, p, hashes, starts, ends, q, g);
     maps::zero_words(s);
     ranking::answer_of(best)
+}
+
+// The most hashes of a query whose starts and ends stand in small arrays: to clear large ones costs a small query more than the search itself.
+const FEW: usize = 256;
+
+// The same with arrays for where the postings of each hash begin and end.
+fn search(s: &mut [i64], refs: &[u32], posts: &[u32], hashes: &[u32], q: PanakoQuery) -> Finding
+    requires { ⌜ Posted (now refs) (now posts) (now hashes) q × (length (now s) / 12 ≤ 1000000) ⌝ }
+    ensures { λ r. ⌜ findingAnswer r ≡ answerIn q (length (now (s .entry)) / 12) (now (refs .entry)) (now (posts .entry)) (now (hashes .entry)) ⌝ }
+    ensures { λ _. ⌜ now (s .exit) ≡ scratchAfter (answerIn q (length (now (s .entry)) / 12) (now (refs .entry)) (now (posts .entry)) (now (hashes .entry))) (now (s .entry)) ⌝ }
+{
+    if q.q_len <= FEW {
+        let mut starts = [0u32; 256];
+        let mut ends = [0u32; 256];
+        return search_in(s, refs, posts, hashes, q, &mut starts, &mut ends);
+    }
+    let mut starts = [0u32; 2048];
+    let mut ends = [0u32; 2048];
+    search_in(s, refs, posts, hashes, q, &mut starts, &mut ends)
 }
 
 // What every candidate is judged with: the settings after `normalize_config`.

@@ -1,3 +1,4 @@
 -- Laws of the votes of a query.
 pub mod Pairs
 pub mod Walks
+pub mod Fitting

@@ -1,5 +1,6 @@
 -- The votes of the first query hashes, and their counting. Assumes nothing.
 use mathlib.Core.Path.{_≡_, refl, sym, ap, _∙_}
+use mathlib.Core.Bool.{true}
 use mathlib.Core.List.{List, [], _++_}
 use Prim.Native.Nat.{ℕ, _+_, _*_, _/_, _≤_, _<_}
 use native.Mathlib.Omega.{arith}
@@ -7,9 +8,11 @@ use lib.IntN.{ℤ}
 use lib.ListN.{length, getD, length-append}
 use Rattle.lists.specs.Lists.{flat}
 use Rattle.lists.specs.Keys.{under}
-use Rattle.lists.specs.Entries.{entries, entryAt, keyOf}
+use Rattle.lists.specs.Entries.{entries, entryAt, keyOf, keyAt, keysAscend}
 use Rattle.lists.proofs.Entries.{entry-key, entry-word}
-use Rattle.maps.proofs.Entries.{part-length, part-entries}
+use Rattle.maps.specs.Entries.{firstAt}
+use Rattle.maps.proofs.Entries.{first-le, part-length, part-entries}
+use Rattle.seeking.proofs.Meeting.{under-many}
 use Rattle.panako_vote.specs.declared.ScaleGrid.{ScaleGrid}
 use Rattle.candidates.specs.Gathered.{wordsOf}
 use Rattle.candidates.proofs.Walks.{part-many, given-none, given-count, given-longer, firsts, firsts-all, firsts-none, firsts-more, firsts-longer}
@@ -91,6 +94,10 @@ module _ (g : ScaleGrid) (ps : List ℕ) (p : ℕ) (hs : List ℕ) where
 
       pub counting-all : j ≡ n → v ≡ length (before (i + 1))
       counting-all k = C .counted ∙ ap (λ (t : ℕ). length (before i) + length (wordsOn g qa qc (entries 5 t part))) k ∙ ap (λ (l : List ℤ). length (before i) + length l) whole-part ∙ sym (longer i)
+
+      -- where the part ends
+      pub counting-end : keysAscend ps 5 p ≡ true → (start : ℕ) → start ≡ firstAt ps 5 p (keyAt hs 4 i) → start + n ≡ firstAt ps 5 p (keyAt hs 4 i + 1)
+      counting-end t start k = omega (arith, C .many, under-many ps 5 p (keyAt hs 4 i) t (omega arith) fit, first-le ps 5 p (keyAt hs 4 i) t)
 
       module _ (c : ℕ) (e : c ≡ length (wordsWith g qa qc (entryAt 5 j part))) (lt : j < n) where
         pub counting-more : v + c ≤ room → Counting room i qa qc part n (v + c) (j + 1)

@@ -3,11 +3,12 @@ ghost use mathlib.Core.Path.{_≡_};
 ghost use mathlib.Core.Bool.{true};
 ghost use mathlib.Core.List.{_++_};
 ghost use Prim.Native.Nat.{_+_, _*_, _≤_, _<_, _^_, min};
+ghost use lib.Dec.{leb};
 ghost use lib.ListN.{length, getD, take};
 ghost use Rattle.lists.specs.Keys.{under};
 ghost use Rattle.lists.specs.Entries.{entries, entryAt, keyOf, keysAscend};
 ghost use Rattle.maps.specs.Entries.{firstAt};
-ghost use Rattle.seeking.specs.Starts.{Starts, Sought};
+ghost use Rattle.seeking.specs.Starts.{Starts, Ends, Sought};
 ghost use Rattle.panako_vote.specs.Grids.{Limited};
 ghost use Rattle.candidates.specs.Gathered.{Ids};
 ghost use Rattle.panako_voting.specs.Gathered.{wordsWith, words, voteCount, wordsOn, Packable};
@@ -27,18 +28,20 @@ fn pair_count(g: ScaleGrid, qa: u32, qc: u32, part: &[u32], j: usize) -> usize
 }
 
 // The votes of m query hashes with p postings; `starts` says where those of each hash begin. They are held at one more than the room: the
-// counting ends at the vote that passes it.
-pub fn count_votes(
+// counting ends at the vote that passes it. Where it is not passed, `ends` says where the postings of each hash end.
+fn count_votes(
+    ends: &mut [u32],
     posts: &[u32],
     p: usize,
     hashes: &[u32],
     m: usize,
-    starts: &[u32; 2048],
+    starts: &[u32],
     g: ScaleGrid,
     room: usize,
 ) -> usize
-    requires { ⌜ Sought (now posts) 5 p (now hashes) 4 m × Starts (now posts) 5 p (now hashes) 4 m (now starts) × (room ≤ 1000000) ⌝ }
+    requires { ⌜ Sought (now posts) 5 p (now hashes) 4 m × Starts (now posts) 5 p (now hashes) 4 m (now starts) × (m ≤ length (now starts)) × (m ≤ length (now ends)) × (room ≤ 1000000) ⌝ }
     ensures { λ r. ⌜ r ≡ min (room + 1) (voteCount g (entries 5 p (now (posts .entry))) (entries 4 m (now (hashes .entry)))) ⌝ }
+    ensures { λ r. ⌜ (r ≤ room → Ends (now (posts .entry)) 5 p (now (hashes .entry)) 4 m (now (ends .exit))) ⌝ }
 {
     let mut v = 0;
     let mut i = 0;
@@ -46,7 +49,8 @@ pub fn count_votes(
         let k = 4 * i;
         let qa = hashes[k + 1];
         let qc = hashes[k + 3];
-        let part = maps::part_at(posts, 5, p, starts[i], hashes[k]);
+        let start = starts[i];
+        let part = maps::part_at(posts, 5, p, start, hashes[k]);
         let n = part.len() / 5;
         let mut j = 0;
         while j < n {
@@ -56,9 +60,32 @@ pub fn count_votes(
             }
             j += 1;
         }
+        ends[i] = start + (n as u32);
         i += 1;
     }
     v
+}
+
+// Whether the votes of m query hashes with p postings fit the room; then `ends` says where the postings of each hash end. Where the postings
+// met fit, the votes do, and are not counted.
+pub fn fits(
+    ends: &mut [u32],
+    posts: &[u32],
+    p: usize,
+    hashes: &[u32],
+    m: usize,
+    starts: &[u32],
+    g: ScaleGrid,
+    room: usize,
+) -> bool
+    requires { ⌜ Sought (now posts) 5 p (now hashes) 4 m × Starts (now posts) 5 p (now hashes) 4 m (now starts) × (m ≤ length (now starts)) × (m ≤ length (now ends)) × (room ≤ 1000000) ⌝ }
+    ensures { λ r. ⌜ r ≡ leb (voteCount g (entries 5 p (now (posts .entry))) (entries 4 m (now (hashes .entry)))) room ⌝ }
+    ensures { λ r. ⌜ (r ≡ true → Ends (now (posts .entry)) 5 p (now (hashes .entry)) 4 m (now (ends .exit))) ⌝ }
+{
+    if seeking::meet(ends, starts, posts, 5, p, hashes, 4, m, room) <= room {
+        return true;
+    }
+    count_votes(ends, posts, p, hashes, m, starts, g, room) <= room
 }
 
 // The vote of a query hash at qa .. qc and posting j of a part, if they have one, goes to word `at`. Yields where the votes end.
@@ -109,24 +136,25 @@ fn gather_part(
     v
 }
 
-// The same with all of p postings that stand under a key, which begins at `start`.
+// The same with all of p postings that stand under a key, from `start` to before `end`.
 fn gather_key(
     s: &mut [i64],
     at: usize,
     posts: &[u32],
     p: usize,
     start: u32,
+    end: u32,
     key: u32,
     g: ScaleGrid,
     qa: u32,
     qc: u32,
 ) -> usize
-    requires { ⌜ (5 * p ≤ length (now posts)) × (keysAscend (now posts) 5 p ≡ true) × (start ≡ firstAt (now posts) 5 p key) × Ids (entries 5 p (now posts)) × Limited g
+    requires { ⌜ (5 * p ≤ length (now posts)) × (keysAscend (now posts) 5 p ≡ true) × (start ≡ firstAt (now posts) 5 p key) × (end ≡ firstAt (now posts) 5 p (key + 1)) × Ids (entries 5 p (now posts)) × Limited g
         × (at + length (wordsOn g qa qc (under keyOf key (entries 5 p (now posts)))) ≤ length (now s)) ⌝ }
     ensures { λ r. ⌜ (r ≡ at + length (wordsOn g qa qc (under keyOf key (entries 5 p (now (posts .entry))))))
         × (take r (now (s .exit)) ≡ take at (now (s .entry)) ++ wordsOn g qa qc (under keyOf key (entries 5 p (now (posts .entry))))) ⌝ }
 {
-    let part = maps::part_at(posts, 5, p, start, key);
+    let part = seeking::part_of(posts, 5, p, start, end, key);
     let n = part.len() / 5;
     gather_part(s, at, part, n, g, qa, qc)
 }
@@ -138,10 +166,12 @@ pub fn gather(
     p: usize,
     hashes: &[u32],
     m: usize,
-    starts: &[u32; 2048],
+    starts: &[u32],
+    ends: &[u32],
     g: ScaleGrid,
 ) -> usize
-    requires { ⌜ Packable (now posts) p (now hashes) m g × Starts (now posts) 5 p (now hashes) 4 m (now starts) × (voteCount g (entries 5 p (now posts)) (entries 4 m (now hashes)) ≤ length (now s)) ⌝ }
+    requires { ⌜ Packable (now posts) p (now hashes) m g × Starts (now posts) 5 p (now hashes) 4 m (now starts) × Ends (now posts) 5 p (now hashes) 4 m (now ends)
+        × (m ≤ length (now starts)) × (m ≤ length (now ends)) × (voteCount g (entries 5 p (now posts)) (entries 4 m (now hashes)) ≤ length (now s)) ⌝ }
     ensures { λ r. ⌜ (r ≡ voteCount g (entries 5 p (now (posts .entry))) (entries 4 m (now (hashes .entry))))
         × (take r (now (s .exit)) ≡ words g (entries 5 p (now (posts .entry))) (entries 4 m (now (hashes .entry)))) ⌝ }
 {
@@ -155,6 +185,7 @@ pub fn gather(
             posts,
             p,
             starts[i],
+            ends[i],
             hashes[k],
             g,
             hashes[k + 1],

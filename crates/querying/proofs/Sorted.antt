@@ -9,19 +9,20 @@ use Rattle.lists.specs.Lists.{All}
 use Rattle.lists.proofs.Keep.{all-both}
 use Rattle.lists.proofs.Entries.{length-entries}
 use Rattle.sorting.specs.Sort.{sortZ}
+use Rattle.seeking.specs.Starts.{met}
 use Rattle.candidates.proofs.Gathering.{words-all}
 use Rattle.candidates.proofs.Sorted as sorting
 use Rattle.judging.specs.declared.WangQuery.{WangQuery}
-use Rattle.voting.specs.Gathered.{voteCount, voteWord, pairWord}
+use Rattle.voting.specs.Gathered.{voteWord, pairWord}
 use Rattle.voting.proofs.Walks.{votes-many}
 use Rattle.querying.specs.Candidates.{postingsIn, hashesIn, wordsIn, Spanned, Votes, Held, Posted}
 use Rattle.querying.proofs.Pairs.{Low, Small, low-hashes, small-postings, recording-is, place-is}
 
 -- how many are gathered
-pub gathered-many : (q : WangQuery) (rs ps hs : List ℕ) → voteCount (postingsIn rs ps) (hashesIn q hs) ≡ length (wordsIn q rs ps hs)
+pub gathered-many : (q : WangQuery) (rs ps hs : List ℕ) → met (postingsIn rs ps) (hashesIn q hs) ≡ length (wordsIn q rs ps hs)
 gathered-many q rs ps hs = sym (votes-many (q .«q_max») 0 (postingsIn rs ps) (hashesIn q hs))
 
-pub counted-all : (q : WangQuery) (rs ps hs : List ℕ) (room v : ℕ) → v ≡ min (room + 1) (voteCount (postingsIn rs ps) (hashesIn q hs)) → v ≡ min (room + 1) (length (wordsIn q rs ps hs))
+pub counted-all : (q : WangQuery) (rs ps hs : List ℕ) (room v : ℕ) → v ≡ min (room + 1) (met (postingsIn rs ps) (hashesIn q hs)) → v ≡ min (room + 1) (length (wordsIn q rs ps hs))
 counted-all q rs ps hs room v e = rw (gathered-many q rs ps hs) at e
 
 -- a vote lies in its recording's span

@@ -5,7 +5,7 @@ ghost use lib.ListN.{length, getD, take};
 ghost use Rattle.model.specs.Fingerprints.{hashesOf};
 ghost use Rattle.model.specs.Run.{runQuery};
 ghost use Rattle.soundness.specs.Scan.{words};
-ghost use Rattle.seeking.specs.Starts.{Starts};
+ghost use Rattle.seeking.specs.Starts.{Starts, Ends, Zeros};
 ghost use Rattle.ranking.specs.Answers.{bestSoFar, findingAnswer, scratchAfter};
 ghost use Rattle.judging.specs.Scheme.{queryOf, wang};
 ghost use Rattle.querying.specs.Asked.{asked};
@@ -39,41 +39,80 @@ fn best_of(s: &mut [i64], v: usize, refs: &[u32], q: WangQuery) -> Best
 }
 
 // The best candidate by the votes of the query's hashes, which are gathered and sorted in the scratch. `starts` says where the postings of
-// each hash begin.
+// each hash begin, and `ends` where they end.
 fn best_candidate(
     s: &mut [i64],
     refs: &[u32],
     posts: &[u32],
     p: usize,
     hashes: &[u32],
-    starts: &[u32; 2048],
+    starts: &[u32],
+    ends: &[u32],
     q: WangQuery,
 ) -> Best
     requires { ⌜ Posted (now refs) (now posts) (now hashes) q × (p ≡ getD (now refs) 2 0) × (length (wordsIn q (now refs) (now posts) (now hashes)) ≤ 1000000)
-        × (4 * length (wordsIn q (now refs) (now posts) (now hashes)) ≤ length (now s)) × Starts (now posts) 3 p (now hashes) 2 (q .«q_len») (now starts) ⌝ }
+        × (4 * length (wordsIn q (now refs) (now posts) (now hashes)) ≤ length (now s)) × Starts (now posts) 3 p (now hashes) 2 (q .«q_len») (now starts)
+        × Ends (now posts) 3 p (now hashes) 2 (q .«q_len») (now ends) × (q .«q_len» ≤ length (now starts)) × (q .«q_len» ≤ length (now ends)) ⌝ }
     ensures { λ r. ⌜ bestSoFar r ≡ bestIn q (now (refs .entry)) (wordsIn q (now (refs .entry)) (now (posts .entry)) (now (hashes .entry))) ⌝ }
 {
-    let v = voting::gather(s, posts, p, hashes, q.q_len, starts, maps::wide(q.q_max));
+    let v = voting::gather(
+        s,
+        posts,
+        p,
+        hashes,
+        q.q_len,
+        starts,
+        ends,
+        maps::wide(q.q_max),
+    );
     sorting::sort_words(s, v);
     best_of(s, v, refs, q)
 }
 
-// The answer of a query to which no refusal before 8 applies. An accepted one leaves zeros in the scratch.
+// The answer of a query to which no refusal before 8 applies. An accepted one leaves zeros in the scratch. Where the postings of each hash
+// begin and end goes to `starts` and `ends`.
+fn search_in(
+    s: &mut [i64],
+    refs: &[u32],
+    posts: &[u32],
+    hashes: &[u32],
+    q: WangQuery,
+    starts: &mut [u32],
+    ends: &mut [u32],
+) -> Finding
+    requires { ⌜ Posted (now refs) (now posts) (now hashes) q × (length (now s) / 6 ≤ 1000000) × Zeros (q .«q_len») (now starts) × (q .«q_len» ≤ length (now ends)) ⌝ }
+    ensures { λ r. ⌜ (findingAnswer r ≡ answerIn q (length (now (s .entry)) / 6) (now (refs .entry)) (now (posts .entry)) (now (hashes .entry)))
+        × (now (s .exit) ≡ scratchAfter (answerIn q (length (now (s .entry)) / 6) (now (refs .entry)) (now (posts .entry)) (now (hashes .entry))) (now (s .entry))) ⌝ }
+{
+    let room = s.len() / 6;
+    let p = rows::header(refs).postings;
+    seeking::seek(starts, posts, 3, p, hashes, 2, q.q_len);
+    if room < seeking::meet(ends, starts, posts, 3, p, hashes, 2, q.q_len, room) {
+        return Finding::Refused(8);
+    }
+    let best = best_candidate(s, refs, posts, p, hashes, starts, ends, q);
+    maps::zero_words(s);
+    ranking::answer_of(best)
+}
+
+// The most hashes of a query whose starts and ends stand in small arrays: to clear large ones costs a small query more than the search
+// itself.
+const FEW: usize = 256;
+
+// The same, with arrays of its own.
 fn search(s: &mut [i64], refs: &[u32], posts: &[u32], hashes: &[u32], q: WangQuery) -> Finding
     requires { ⌜ Posted (now refs) (now posts) (now hashes) q × (length (now s) / 6 ≤ 1000000) ⌝ }
     ensures { λ r. ⌜ findingAnswer r ≡ answerIn q (length (now (s .entry)) / 6) (now (refs .entry)) (now (posts .entry)) (now (hashes .entry)) ⌝ }
     ensures { λ _. ⌜ now (s .exit) ≡ scratchAfter (answerIn q (length (now (s .entry)) / 6) (now (refs .entry)) (now (posts .entry)) (now (hashes .entry))) (now (s .entry)) ⌝ }
 {
-    let room = s.len() / 6;
-    let p = rows::header(refs).postings;
-    let mut starts = [0u32; 2048];
-    seeking::seek(&mut starts, posts, 3, p, hashes, 2, q.q_len);
-    if room < voting::count_votes(posts, p, hashes, q.q_len, &starts, room) {
-        return Finding::Refused(8);
+    if q.q_len <= FEW {
+        let mut starts = [0u32; 256];
+        let mut ends = [0u32; 256];
+        return search_in(s, refs, posts, hashes, q, &mut starts, &mut ends);
     }
-    let best = best_candidate(s, refs, posts, p, hashes, &starts, q);
-    maps::zero_words(s);
-    ranking::answer_of(best)
+    let mut starts = [0u32; 2048];
+    let mut ends = [0u32; 2048];
+    search_in(s, refs, posts, hashes, q, &mut starts, &mut ends)
 }
 
 // What every candidate is judged with.

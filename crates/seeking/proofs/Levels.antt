@@ -13,7 +13,7 @@ use Rattle.seeking.specs.Starts.{Starts, Zeros, Window, Windows, Sought}
 
 module _ (ps : List ℕ) (w p : ℕ) (hs : List ℕ) (h m len : ℕ) where
   pub record Level (starts : List ℕ) (i : ℕ) : Type 0 where
-    pub long : length starts ≡ 2048
+    pub long : m ≤ length starts
     pub on : i ≤ m
     pub done : (j : ℕ) → j < i → Window ps w p (keyAt hs h j) (len / 2) (getD starts j 0)
     pub rest : (j : ℕ) → i ≤ j → j < m → Window ps w p (keyAt hs h j) len (getD starts j 0)
@@ -24,8 +24,8 @@ module _ (ps : List ℕ) (w p : ℕ) (hs : List ℕ) (h m len : ℕ) where
   pub level-all : (starts : List ℕ) (i : ℕ) → Level starts i → m ≤ i → Windows ps w p hs h m (len / 2) starts
   level-all starts i L k = record { long = L .long; each = λ j l. L .done j (omega arith) }
 
-  pub level-more : (starts : List ℕ) (i x : ℕ) → Level starts i → i < m → m ≤ 2048 → Window ps w p (keyAt hs h i) (len / 2) x → Level (set starts i x) (i + 1)
-  level-more starts i x L lt few W = record {
+  pub level-more : (starts : List ℕ) (i x : ℕ) → Level starts i → i < m → Window ps w p (keyAt hs h i) (len / 2) x → Level (set starts i x) (i + 1)
+  level-more starts i x L lt W = record {
     long = simp length-set (L .long);
     on = omega arith;
     done = λ j l. at j (eq-or-lt-of-le (omega arith));
@@ -36,14 +36,14 @@ module _ (ps : List ℕ) (w p : ℕ) (hs : List ℕ) (h m len : ℕ) where
       at j (inl e) = rw e (subst (Window ps w p (keyAt hs h i) (len / 2)) (sym (getD-set-same starts i x 0 (omega (arith, L .long)))) W)
       at j (inr l) = subst (Window ps w p (keyAt hs h j) (len / 2)) (sym (getD-set-other starts i j x 0 (λ e. omega arith))) (L .done j l)
 
-pub zeros : Zeros (replicate 2048 0)
-zeros = record { long = length-replicate {A = ℕ} 2048 0; zero = λ i l. getD-replicate {A = ℕ} 2048 i 0 0 l }
+pub zeros : (n m : ℕ) → m ≤ n → Zeros m (replicate n 0)
+zeros n m h = record { long = omega (arith, length-replicate {A = ℕ} n 0); zero = λ i l. getD-replicate {A = ℕ} n i 0 0 (omega arith) }
 
 -- at first all postings are looked at
-pub windows-all : (ps : List ℕ) (w p : ℕ) (hs : List ℕ) (h m : ℕ) (starts : List ℕ) → Sought ps w p hs h m → Zeros starts → Windows ps w p hs h m p starts
+pub windows-all : (ps : List ℕ) (w p : ℕ) (hs : List ℕ) (h m : ℕ) (starts : List ℕ) → Sought ps w p hs h m → Zeros m starts → Windows ps w p hs h m p starts
 windows-all ps w p hs h m starts S Z = record {
   long = Z .long;
-  each = λ i l. subst (Window ps w p (keyAt hs h i) p) (sym (Z .zero i (omega (arith, S .few)))) (record { since = omega arith; upto = omega (arith, first-splits ps w p (keyAt hs h i) (S .ascend) .within); within = omega arith });
+  each = λ i l. subst (Window ps w p (keyAt hs h i) p) (sym (Z .zero i l)) (record { since = omega arith; upto = omega (arith, first-splits ps w p (keyAt hs h i) (S .ascend) .within); within = omega arith });
 }
 
 -- a window of no postings is where the postings under the key begin

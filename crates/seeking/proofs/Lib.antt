@@ -1,3 +1,4 @@
 -- Laws of the search for all hashes together.
 pub mod Steps
 pub mod Levels
+pub mod Meeting

@@ -1,21 +1,31 @@
--- Where the postings of each of m query hashes begin: p postings of w words each, hashes of h words, the key first. Definitions only.
--- Assumes nothing.
+-- Where the postings of each of m query hashes begin and end: p postings of w words each, hashes of h words, the key first. Definitions
+-- only. Assumes nothing.
 use mathlib.Core.Path.{_≡_}
 use mathlib.Core.Bool.{true}
-use mathlib.Core.List.{List}
+use mathlib.Core.List.{List, map}
 use Prim.Native.Nat.{ℕ, _+_, _*_, _^_, _≤_, _<_}
 use lib.ListN.{length, getD}
-use Rattle.lists.specs.Entries.{keyAt, keysAscend}
+use Rattle.lists.specs.Lists.{sum}
+use Rattle.lists.specs.Keys.{under}
+use Rattle.lists.specs.Entries.{keyAt, keyOf, keysAscend}
 use Rattle.maps.specs.Entries.{firstAt}
 
 -- "starting wherever that key begins": start i is the first posting at the key of hash i, or above it
 pub record Starts (ps : List ℕ) (w p : ℕ) (hs : List ℕ) (h m : ℕ) (starts : List ℕ) : Type 0 where
   pub begins : (i : ℕ) → i < m → getD starts i 0 ≡ firstAt ps w p (keyAt hs h i)
 
--- how the starts come in
-pub record Zeros (starts : List ℕ) : Type 0 where
-  pub long : length starts ≡ 2048
-  pub zero : (i : ℕ) → i < 2048 → getD starts i 0 ≡ 0
+-- end i is the first posting above it
+pub record Ends (ps : List ℕ) (w p : ℕ) (hs : List ℕ) (h m : ℕ) (ends : List ℕ) : Type 0 where
+  pub stops : (i : ℕ) → i < m → getD ends i 0 ≡ firstAt ps w p (keyAt hs h i + 1)
+
+-- how many postings the query hashes hs meet: those under the key of each
+unfoldable pub met : List (List ℕ) → List (List ℕ) → ℕ
+met es hs = sum (map (λ h. length (under keyOf (keyOf h) es)) hs)
+
+-- how the starts of m hashes come in
+pub record Zeros (m : ℕ) (starts : List ℕ) : Type 0 where
+  pub long : m ≤ length starts
+  pub zero : (i : ℕ) → i < m → getD starts i 0 ≡ 0
 
 -- the postings under a key begin at one of the `len` postings from `start` on, or just behind them
 pub record Window (ps : List ℕ) (w p key len start : ℕ) : Type 0 where
@@ -25,7 +35,7 @@ pub record Window (ps : List ℕ) (w p key len start : ℕ) : Type 0 where
 
 -- one for each hash
 pub record Windows (ps : List ℕ) (w p : ℕ) (hs : List ℕ) (h m len : ℕ) (starts : List ℕ) : Type 0 where
-  pub long : length starts ≡ 2048
+  pub long : m ≤ length starts
   pub each : (i : ℕ) → i < m → Window ps w p (keyAt hs h i) len (getD starts i 0)
 
 -- what the search asks: postings in the order of their keys, and "query 0 to 2,048" hashes

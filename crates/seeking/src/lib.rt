@@ -1,9 +1,15 @@
-// Where the postings of each query hash begin, found for all hashes together.
+// Where the postings of each query hash begin and end, and how many they are.
 ghost use mathlib.Core.Path.{_≡_};
-ghost use Prim.Native.Nat.{_/_, _<_};
+ghost use mathlib.Core.Bool.{true};
+ghost use Prim.Native.Nat.{_+_, _*_, _/_, _≤_, _<_, min};
 ghost use lib.Dec.{ltb};
+ghost use lib.ListN.{length};
+ghost use Rattle.lists.specs.Lists.{flat};
+ghost use Rattle.lists.specs.Keys.{under};
+ghost use Rattle.lists.specs.Entries.{entries, keyOf, keysAscend};
 ghost use Rattle.maps.specs.Sums.{when};
-ghost use Rattle.seeking.specs.Starts.{Starts, Zeros, Windows, Sought};
+ghost use Rattle.maps.specs.Entries.{firstAt};
+ghost use Rattle.seeking.specs.Starts.{Starts, Ends, met, Zeros, Windows, Sought};
 
 // `half` where x is below the key, and nothing where not. It has no branch, which would be mispredicted every other time: the upper half of
 // x − key is all ones just where x is below the key.
@@ -16,7 +22,7 @@ fn step(x: u32, key: u32, half: u32) -> u32
 
 // One level of the search, for all of m hashes: a window of `len` postings becomes one of half as many.
 fn narrow(
-    starts: &mut [u32; 2048],
+    starts: &mut [u32],
     posts: &[u32],
     w: usize,
     p: usize,
@@ -40,7 +46,7 @@ fn narrow(
 
 // Where the postings of each of m hashes begin: p postings of w words, hashes of h words.
 pub fn seek(
-    starts: &mut [u32; 2048],
+    starts: &mut [u32],
     posts: &[u32],
     w: usize,
     p: usize,
@@ -48,7 +54,7 @@ pub fn seek(
     h: usize,
     m: usize,
 )
-    requires { ⌜ Sought (now posts) w p (now hashes) h m × Zeros (now starts) ⌝ }
+    requires { ⌜ Sought (now posts) w p (now hashes) h m × Zeros m (now starts) ⌝ }
     ensures { λ _. ⌜ Starts (now (posts .entry)) w p (now (hashes .entry)) h m (now (starts .exit)) ⌝ }
 {
     let mut len = p as u32;
@@ -56,4 +62,77 @@ pub fn seek(
         narrow(starts, posts, w, p, hashes, h, m, len);
         len = len / 2;
     }
+}
+
+// Whether entry e, which stands at a key or behind its entries, is under the key.
+fn is_under(posts: &[u32], w: usize, p: usize, e: usize, key: u32) -> bool
+    requires { ⌜ (1 ≤ w) × (w * p ≤ length (now posts)) × (keysAscend (now posts) w p ≡ true) × (firstAt (now posts) w p key ≤ e) ⌝ }
+    ensures { λ r. ⌜ r ≡ ltb e (firstAt (now (posts .entry)) w p (key + 1)) ⌝ }
+{
+    if e < p {
+        return maps::key_at(posts, w, e) == key;
+    }
+    false
+}
+
+// 1 where the key has entries, of which the first stands at a, and 0 where it has none. It has no branch on the key: one query hash in a few
+// meets nothing, which can't be predicted.
+fn first_under(posts: &[u32], w: usize, p: usize, a: usize, key: u32) -> usize
+    requires { ⌜ (1 ≤ w) × (w * p ≤ length (now posts)) × (keysAscend (now posts) w p ≡ true) × (a ≡ firstAt (now posts) w p key) ⌝ }
+    ensures { λ r. ⌜ r ≡ when (ltb a (firstAt (now (posts .entry)) w p (key + 1))) 1 ⌝ }
+{
+    if a < p {
+        return (1 - step(key, maps::key_at(posts, w, a), 1)) as usize;
+    }
+    0
+}
+
+// How many postings m hashes meet, held at one more than the room: the counting ends at the posting that passes it. Where it is not passed,
+// `ends` says where the postings of each hash end.
+pub fn meet(
+    ends: &mut [u32],
+    starts: &[u32],
+    posts: &[u32],
+    w: usize,
+    p: usize,
+    hashes: &[u32],
+    h: usize,
+    m: usize,
+    room: usize,
+) -> usize
+    requires { ⌜ Sought (now posts) w p (now hashes) h m × Starts (now posts) w p (now hashes) h m (now starts) × (m ≤ length (now starts)) × (m ≤ length (now ends)) × (room ≤ 1000000) ⌝ }
+    ensures { λ r. ⌜ r ≡ min (room + 1) (met (entries w p (now (posts .entry))) (entries h m (now (hashes .entry)))) ⌝ }
+    ensures { λ r. ⌜ (r ≤ room → Ends (now (posts .entry)) w p (now (hashes .entry)) h m (now (ends .exit))) ⌝ }
+{
+    let mut v = 0;
+    let mut i = 0;
+    'hashes: while i < m {
+        let key = maps::key_at(hashes, h, i);
+        let a = starts[i] as usize;
+        let mut e = a + first_under(posts, w, p, a, key);
+        v += e - a;
+        if room < v {
+            break 'hashes;
+        }
+        while is_under(posts, w, p, e, key) {
+            v += 1;
+            if room < v {
+                break 'hashes;
+            }
+            e += 1;
+        }
+        ends[i] = e as u32;
+        i += 1;
+    }
+    v
+}
+
+// The postings under a key, from entry a to before entry e.
+pub fn part_of(posts: &[u32], w: usize, p: usize, a: u32, e: u32, key: u32) -> &[u32]
+    requires { ⌜ (1 ≤ w) × (w * p ≤ length (now posts)) × (keysAscend (now posts) w p ≡ true) × (a ≡ firstAt (now posts) w p key) × (e ≡ firstAt (now posts) w p (key + 1)) ⌝ }
+    ensures { λ r. ⌜ now r ≡ flat (under keyOf key (entries w p (now (posts .entry)))) ⌝ }
+{
+    let from = w * (a as usize);
+    let to = w * (e as usize);
+    &posts[from..to]
 }

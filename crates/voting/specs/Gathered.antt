@@ -1,18 +1,13 @@
 -- The votes of a Wang query as words. A query hash is an entry of two words, key and anchor; a posting one of three, key, id and anchor.
 -- Definitions only. Assumes nothing.
-use mathlib.Core.List.{List, [], _∷_, map}
+use mathlib.Core.List.{List, [], _∷_}
 use Prim.Native.Nat.{ℕ, _+_, _-_, _*_, _^_, _≤_, _<_}
 use lib.IntN.{ℤ, pos}
-use lib.ListN.{length, getD}
-use Rattle.lists.specs.Lists.{sum}
+use lib.ListN.{getD}
 use Rattle.lists.specs.Entries.{entries}
 use Rattle.bins.specs.Votes.{packed}
 use Rattle.seeking.specs.Starts.{Sought}
-use Rattle.candidates.specs.Gathered.{found, wordsBy, Pairing, wordsFrom, Ids}
-
--- how many votes the query hashes hs have with the postings es: one with each under their keys
-unfoldable pub voteCount : List (List ℕ) → List (List ℕ) → ℕ
-voteCount es hs = sum (map (λ h. length (found es h)) hs)
+use Rattle.candidates.specs.Gathered.{wordsBy, Pairing, wordsFrom, Ids}
 
 -- the vote of posting e with the query hash at position q, whose anchor is `shift` below the largest query anchor: the place counts
 -- from the low end of the span

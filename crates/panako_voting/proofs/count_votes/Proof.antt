@@ -1,35 +1,41 @@
 -- `panako_voting::count_votes` meets its contract: at the outer loop's test v is the number of votes of the first i query hashes, at the
--- inner one's those with the first j postings of a part come to them, and neither passes the room. Assumes nothing.
+-- inner one's those with the first j postings of a part come to them, and neither passes the room. The ends of the first i are known.
+-- Assumes nothing.
 use mathlib.Core.Path.{_≡_, refl, sym, ap}
-use Prim.Native.Nat.{_-_, _≤_}
+use Prim.Native.Nat.{_+_, _-_, _/_, _^_, _≤_, _<_}
 use native.Mathlib.Omega.{arith}
-use lib.ListN.{length}
-use Rattle.panako_voting.proofs.Walks.{before, before-all, before-none, Counting, counting-none, counting-room, counting-more, counting-all, counting-over}
+use lib.ListN.{length, getD, length-set}
+use Rattle.lists.specs.Entries.{keyAt}
+use Rattle.maps.specs.Entries.{firstAt}
+use Rattle.maps.proofs.Entries.{first-splits}
+use Rattle.seeking.specs.Starts.{Ends}
+use Rattle.seeking.proofs.Meeting.{ends-more}
+use Rattle.panako_voting.proofs.Walks.{before, before-all, before-none, Counting, counting-none, counting-room, counting-more, counting-all, counting-end, counting-over}
 use borrow.Author.Needs.{needs}
 use Rattle.panako_voting.proofs.count_votes.Statement.{statement}
 use Rattle.panako_voting.proofs.count_votes.Tie as tie
 
 abbrev Inv-loop : tie.InvT-loop
-Inv-loop posts p hashes m starts g room v₀ i k qa qc part n j₀ v j = Counting g posts p hashes room i qa qc part n v j
+Inv-loop ends posts p hashes m starts g room v₀ i k qa qc start part n j₀ v j = Counting g posts p hashes room i qa qc part n v j
 
 abbrev μ-loop : tie.MeasureT-loop
-μ-loop posts p hashes m starts g room v₀ i k qa qc part n j₀ v j = n - j
+μ-loop ends posts p hashes m starts g room v₀ i k qa qc start part n j₀ v j = n - j
 
 abbrev Inv-hashes : tie.InvT-hashes
-Inv-hashes posts p hashes m starts g room v₀ i₀ v i = (v ≡ length (before g posts p hashes i)) × (v ≤ room) × (i ≤ m)
+Inv-hashes ends₀ posts p hashes m starts g room v₀ i₀ ends v i = (v ≡ length (before g posts p hashes i)) × (v ≤ room) × (i ≤ m) × Ends posts 5 p hashes 4 i ends × (length ends ≡ length ends₀)
 
 abbrev μ-hashes : tie.MeasureT-hashes
-μ-hashes posts p hashes m starts g room v₀ i₀ v i = m - i
+μ-hashes ends₀ posts p hashes m starts g room v₀ i₀ ends v i = m - i
 
 -- the places of the outer loop and of its part
 abbrev start : tie.At-hashes Inv-loop μ-loop Inv-hashes μ-hashes → tie.Start Inv-loop μ-loop Inv-hashes μ-hashes
-start c = c .before .before .before
+start c = c .before .before .before .before .before
 
 abbrev outer : tie.After-part-at Inv-loop μ-loop Inv-hashes μ-hashes → tie.At-hashes Inv-loop μ-loop Inv-hashes μ-hashes
 outer c = c .before .before .before .before .before .before
 
 hashes-holds : tie.Need-hashes-holds Inv-loop μ-loop Inv-hashes μ-hashes
-hashes-holds c = let a = c .before .before .args in (sym (ap length (before-none (a .g) (a .posts .now) (a .p) (a .hashes .now))), omega arith, omega arith)
+hashes-holds c = let a = c .before .before .before .before .args in (sym (ap length (before-none (a .g) (a .posts .now) (a .p) (a .hashes .now))), omega arith, omega arith, record { stops = λ j l. absurd (omega arith) }, refl)
 
 mul-k : tie.Need-mul-k Inv-loop μ-loop Inv-hashes μ-hashes
 mul-k c = search needs
@@ -52,14 +58,14 @@ mul-qc c = search needs
 shared-slice-read-qc : tie.Need-shared-slice-read-qc Inv-loop μ-loop Inv-hashes μ-hashes
 shared-slice-read-qc c = search needs
 
+mul-start : tie.Need-mul-start Inv-loop μ-loop Inv-hashes μ-hashes
+mul-start c = search needs
+
+shared-slice-read-start : tie.Need-shared-slice-read-start Inv-loop μ-loop Inv-hashes μ-hashes
+shared-slice-read-start c = search needs
+
 mul-part-at : tie.Need-mul-part-at Inv-loop μ-loop Inv-hashes μ-hashes
 mul-part-at c = search needs
-
-element-copy-out-part-at : tie.Need-element-copy-out-part-at Inv-loop μ-loop Inv-hashes μ-hashes
-element-copy-out-part-at c = search needs
-
-mul-part-at-2 : tie.Need-mul-part-at-2 Inv-loop μ-loop Inv-hashes μ-hashes
-mul-part-at-2 c = search needs
 
 shared-slice-read-part-at : tie.Need-shared-slice-read-part-at Inv-loop μ-loop Inv-hashes μ-hashes
 shared-slice-read-part-at c = search needs
@@ -102,6 +108,35 @@ loop-again c =
     let l = c .before .before .before .loop in
     counting-more (a .g) (a .posts .now) (a .p) (a .hashes .now) (s .pre .0 .postings) (a .room) (o .hashes .i) _ _ _ _ (l .v) (l .j) (l .inv) (c .before .pair-count .result) (c .before .pair-count .ensures .0) (omega arith) (omega arith)
 
+-- the place behind the part, where the next key begins
+module _ (c : tie.After-loop Inv-loop μ-loop Inv-hashes μ-hashes) where
+  abbrev turn : tie.At-hashes Inv-loop μ-loop Inv-hashes μ-hashes
+  turn = outer (c .before .before)
+
+  abbrev s : tie.Start Inv-loop μ-loop Inv-hashes μ-hashes
+  s = start turn
+
+  ended : getD (s .args .starts .now) (turn .hashes .i) 0 + length (c .before .before .part-at .result .now) / 5 ≡ firstAt (s .args .posts .now) 5 (s .args .p) (keyAt (s .args .hashes .now) 4 (turn .hashes .i) + 1)
+  ended =
+      let a = s .args in
+      let l = c .before .loop in
+      counting-end (a .g) (a .posts .now) (a .p) (a .hashes .now) (s .pre .0 .postings) (a .room) (turn .hashes .i) _ _ _ _ (l .v) (l .j) (l .inv) (s .pre .0 .ascend) _ (s .pre .1 .begins (turn .hashes .i) (c .before .before .before .before .before .before .before .hashes-test .taken))
+
+  small : getD (s .args .starts .now) (turn .hashes .i) 0 + length (c .before .before .part-at .result .now) / 5 < 2 ^ 32
+  small = omega (arith, ended, first-splits (s .args .posts .now) 5 (s .args .p) (keyAt (s .args .hashes .now) 4 (turn .hashes .i) + 1) (s .pre .0 .ascend) .within, s .pre .0 .counted)
+
+cast-ends : tie.Need-cast-ends Inv-loop μ-loop Inv-hashes μ-hashes
+cast-ends c = record { fits = omega (arith, small c) }
+
+add-ends : tie.Need-add-ends Inv-loop μ-loop Inv-hashes μ-hashes
+add-ends c = omega (arith, small c)
+
+mul-ends : tie.Need-mul-ends Inv-loop μ-loop Inv-hashes μ-hashes
+mul-ends c = search needs
+
+slice-write-ends : tie.Need-slice-write-ends Inv-loop μ-loop Inv-hashes μ-hashes
+slice-write-ends c = let o = outer (c .before .before) in omega (arith, o .hashes .inv .4, start o .pre .3)
+
 add-i : tie.Need-add-i Inv-loop μ-loop Inv-hashes μ-hashes
 add-i c = search needs
 
@@ -114,7 +149,10 @@ hashes-again c =
     let s = start o in
     let a = s .args in
     let l = c .before .loop in
-    (counting-all (a .g) (a .posts .now) (a .p) (a .hashes .now) (s .pre .0 .postings) (a .room) (o .hashes .i) _ _ _ _ (l .v) (l .j) (l .inv) (omega (arith, l .inv .on)), l .inv .fits, omega arith)
+    (counting-all (a .g) (a .posts .now) (a .p) (a .hashes .now) (s .pre .0 .postings) (a .room) (o .hashes .i) _ _ _ _ (l .v) (l .j) (l .inv) (omega (arith, l .inv .on)), l .inv .fits, omega arith, ends-more (a .posts .now) 5 (a .p) (a .hashes .now) 4 (o .hashes .i) (o .hashes .ends) _ (o .hashes .inv .3) (omega (arith, o .hashes .inv .4, s .pre .3)) (ended c), simp length-set (o .hashes .inv .4))
+
+same-length : tie.Need-same-length Inv-loop μ-loop Inv-hashes μ-hashes
+same-length c = c .before .hashes .inv .4
 
 returns : tie.Need-returns Inv-loop μ-loop Inv-hashes μ-hashes
 returns c =
@@ -122,7 +160,10 @@ returns c =
     let l = c .before .hashes in
     let e : l .i ≡ a .m = omega arith in
     let q = rw e at (l .inv .0) in
-    omega (arith, q, ap length (before-all (a .g) (a .posts .now) (a .p) (a .hashes .now) (a .m)))
+    (omega (arith, q, ap length (before-all (a .g) (a .posts .now) (a .p) (a .hashes .now) (a .m))), λ _. rw e at (l .inv .3))
+
+same-length-2 : tie.Need-same-length-2 Inv-loop μ-loop Inv-hashes μ-hashes
+same-length-2 c = outer (c .before .before .before .before) .hashes .inv .4
 
 returns-2 : tie.Need-returns-2 Inv-loop μ-loop Inv-hashes μ-hashes
 returns-2 c =
@@ -131,7 +172,7 @@ returns-2 c =
     let a = s .args in
     let l = c .before .before .before .loop in
     let k = counting-over (a .g) (a .posts .now) (a .p) (a .hashes .now) (s .pre .0 .postings) (a .room) (o .hashes .i) _ _ _ _ (l .v) (l .j) (l .inv) (c .before .pair-count .result) (c .before .pair-count .ensures .0) (omega arith) (a .m) (c .before .before .before .before .before .before .before .before .before .hashes-test .taken) in
-    omega (arith, k, ap length (before-all (a .g) (a .posts .now) (a .p) (a .hashes .now) (a .m)), c .before .pair-count .ensures .1, l .inv .fits)
+    (omega (arith, k, ap length (before-all (a .g) (a .posts .now) (a .p) (a .hashes .now) (a .m)), c .before .pair-count .ensures .1, l .inv .fits), λ h. absurd (omega (arith, c .if1 .taken)))
 
 pub count-votes-spec : {M : Type 1} → statement M
 count-votes-spec =
@@ -149,9 +190,9 @@ count-votes-spec =
     add-qc
     mul-qc
     shared-slice-read-qc
+    mul-start
+    shared-slice-read-start
     mul-part-at
-    element-copy-out-part-at
-    mul-part-at-2
     shared-slice-read-part-at
     part-at-requires
     loop-holds
@@ -160,8 +201,14 @@ count-votes-spec =
     add-j
     loop-less
     loop-again
+    cast-ends
+    add-ends
+    mul-ends
+    slice-write-ends
     add-i
     hashes-less
     hashes-again
+    same-length
     returns
+    same-length-2
     returns-2)

@@ -6,8 +6,8 @@ use borrow.Author.Needs.{needs}
 use Rattle.panako_voting.proofs.gather_key.Statement.{statement}
 use Rattle.panako_voting.proofs.gather_key.Tie as tie
 
-part-at-requires : tie.Need-part-at-requires
-part-at-requires c κs = let s = c .before in (omega arith, s .pre .0, s .pre .1, s .pre .2)
+part-of-requires : tie.Need-part-of-requires
+part-of-requires c κs = let s = c .before in (omega arith, s .pre .0, s .pre .1, s .pre .2, s .pre .3)
 
 gather-part-requires : tie.Need-gather-part-requires
 gather-part-requires c κs =
@@ -15,8 +15,8 @@ gather-part-requires c κs =
     let ps = s .args .posts .now in
     let p = s .args .p in
     let key = s .args .key in
-    rw (c .before .part-at .ensures, part-many 5 ps p key (omega arith) (s .pre .0), part-entries ps 5 p key (s .pre .0))
-    (s .pre .5, omega (arith, part-length ps 5 p key (s .pre .0)), part-ids 5 ps p key (s .pre .3), s .pre .4)
+    rw (c .before .part-of .ensures, part-many 5 ps p key (omega arith) (s .pre .0), part-entries ps 5 p key (s .pre .0))
+    (s .pre .6, omega (arith, part-length ps 5 p key (s .pre .0)), part-ids 5 ps p key (s .pre .4), s .pre .5)
 
 same-length : tie.Need-same-length
 same-length c = search needs
@@ -27,8 +27,8 @@ returns c =
     let ps = s .args .posts .now in
     let p = s .args .p in
     let key = s .args .key in
-    rw (c .before .before .before .part-at .ensures, part-many 5 ps p key (omega arith) (s .pre .0), part-entries ps 5 p key (s .pre .0)) at (c .before .gather-part .ensures)
+    rw (c .before .before .before .part-of .ensures, part-many 5 ps p key (omega arith) (s .pre .0), part-entries ps 5 p key (s .pre .0)) at (c .before .gather-part .ensures)
 
 pub gather-key-spec : {M : Type 1} → statement M
 gather-key-spec =
-    tie.close (tie.spec part-at-requires gather-part-requires same-length returns)
+    tie.close (tie.spec part-of-requires gather-part-requires same-length returns)

@@ -1,7 +1,8 @@
 -- `seeking::narrow` meets its contract: at the loop's test the windows of the first i hashes have been halved. Assumes nothing.
+use mathlib.Core.Path.{_≡_, refl}
 use Prim.Native.Nat.{_+_, _-_, _/_}
 use native.Mathlib.Omega.{arith}
-use lib.ListN.{getD}
+use lib.ListN.{length, getD, length-set}
 use borrow.Author.Needs.{needs}
 use Rattle.lists.specs.Entries.{keyAt}
 use Rattle.lists.proofs.Entries.{stride}
@@ -12,7 +13,7 @@ use Rattle.seeking.proofs.narrow.Statement.{statement}
 use Rattle.seeking.proofs.narrow.Tie as tie
 
 abbrev Inv-loop : tie.InvT-loop
-Inv-loop starts₀ posts w p hashes h m len half i₀ starts i = Level posts w p hashes h m len starts i
+Inv-loop starts₀ posts w p hashes h m len half i₀ starts i = Level posts w p hashes h m len starts i × (length starts ≡ length starts₀)
 
 abbrev μ-loop : tie.MeasureT-loop
 μ-loop starts₀ posts w p hashes h m len half i₀ starts i = m - i
@@ -20,22 +21,22 @@ abbrev μ-loop : tie.MeasureT-loop
 -- the window of hash i
 module _ (c : tie.In-loop Inv-loop μ-loop) where
   abbrev s : tie.Start Inv-loop μ-loop
-  s = c .before .before .before .before
+  s = c .before .before .before .before .before
 
   window : Window (s .args .posts .now) (s .args .w) (s .args .p) (keyAt (s .args .hashes .now) (s .args .h) (c .before .loop .i)) (s .args .len) (getD (c .before .loop .starts) (c .before .loop .i) 0)
-  window = c .before .loop .inv .rest (c .before .loop .i) (omega arith) (c .loop-test .taken)
+  window = c .before .loop .inv .0 .rest (c .before .loop .i) (omega arith) (c .loop-test .taken)
 
 sub-half : tie.Need-sub-half Inv-loop μ-loop
 sub-half c = search needs
 
 loop-holds : tie.Need-loop-holds Inv-loop μ-loop
-loop-holds c = let s = c .before .before in level-none (s .args .posts .now) (s .args .w) (s .args .p) (s .args .hashes .now) (s .args .h) (s .args .m) (s .args .len) _ (s .pre .2)
+loop-holds c = let s = c .before .before .before in (level-none (s .args .posts .now) (s .args .w) (s .args .p) (s .args .hashes .now) (s .args .h) (s .args .m) (s .args .len) _ (s .pre .2), refl)
 
 mul-at : tie.Need-mul-at Inv-loop μ-loop
 mul-at c = search needs
 
-element-copy-out-at : tie.Need-element-copy-out-at Inv-loop μ-loop
-element-copy-out-at c = omega (arith, s c .pre .0 .few)
+slice-read-at : tie.Need-slice-read-at Inv-loop μ-loop
+slice-read-at c = omega (arith, c .before .before .loop .inv .0 .long)
 
 add-key-at : tie.Need-add-key-at Inv-loop μ-loop
 add-key-at c = omega (arith, window (c .before) .within, s (c .before) .pre .0 .counted)
@@ -73,8 +74,8 @@ add-starts c = omega (arith, next c .within, s (c .before .before .before .befor
 mul-starts : tie.Need-mul-starts Inv-loop μ-loop
 mul-starts c = search needs
 
-element-write-starts : tie.Need-element-write-starts Inv-loop μ-loop
-element-write-starts c = omega (arith, s (c .before .before .before .before) .pre .0 .few)
+slice-write-starts : tie.Need-slice-write-starts Inv-loop μ-loop
+slice-write-starts c = omega (arith, c .before .before .before .before .before .loop .inv .0 .long)
 
 add-i : tie.Need-add-i Inv-loop μ-loop
 add-i c = search needs
@@ -85,11 +86,14 @@ loop-less c = search needs
 loop-again : tie.Need-loop-again Inv-loop μ-loop
 loop-again c = let o = s (c .before .before .before .before) in
     let l = c .before .before .before .before .before .loop in
-    level-more (o .args .posts .now) (o .args .w) (o .args .p) (o .args .hashes .now) (o .args .h) (o .args .m) (o .args .len) (l .starts) (l .i) _ (l .inv) (c .before .before .before .before .loop-test .taken) (o .pre .0 .few) (next c)
+    (level-more (o .args .posts .now) (o .args .w) (o .args .p) (o .args .hashes .now) (o .args .h) (o .args .m) (o .args .len) (l .starts) (l .i) _ (l .inv .0) (c .before .before .before .before .loop-test .taken) (next c), simp length-set (l .inv .1))
+
+same-length : tie.Need-same-length Inv-loop μ-loop
+same-length c = c .before .loop .inv .1
 
 returns : tie.Need-returns Inv-loop μ-loop
-returns c = let o = c .before .before .before .before in
-    level-all (o .args .posts .now) (o .args .w) (o .args .p) (o .args .hashes .now) (o .args .h) (o .args .m) (o .args .len) _ (c .before .loop .i) (c .before .loop .inv) (omega arith)
+returns c = let o = c .before .before .before .before .before in
+    level-all (o .args .posts .now) (o .args .w) (o .args .p) (o .args .hashes .now) (o .args .h) (o .args .m) (o .args .len) _ (c .before .loop .i) (c .before .loop .inv .0) (omega arith)
 
 pub narrow-spec : {M : Type 1} → statement M
 narrow-spec =
@@ -100,7 +104,7 @@ narrow-spec =
     sub-half
     loop-holds
     mul-at
-    element-copy-out-at
+    slice-read-at
     add-key-at
     sub-key-at
     cast-key-at
@@ -109,8 +113,9 @@ narrow-spec =
     step-requires
     add-starts
     mul-starts
-    element-write-starts
+    slice-write-starts
     add-i
     loop-less
     loop-again
+    same-length
     returns)

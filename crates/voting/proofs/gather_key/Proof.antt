@@ -1,23 +1,37 @@
 -- `voting::gather_key` meets its contract: the entries of the part are those under the key. Assumes nothing.
-use mathlib.Core.Path.{refl}
+use mathlib.Core.Path.{_≡_}
+use mathlib.Core.List.{List}
+use Prim.Native.Nat.{ℕ, _-_}
 use native.Mathlib.Omega.{arith}
-use Rattle.maps.proofs.Entries.{part-length, part-entries}
-use Rattle.candidates.proofs.Walks.{part-many, part-ids}
+use lib.ListN.{length}
+use Rattle.lists.specs.Lists.{flat}
+use Rattle.lists.specs.Keys.{under}
+use Rattle.lists.specs.Entries.{entries, keyOf}
+use Rattle.maps.proofs.Entries.{first-le, part-length}
+use Rattle.candidates.proofs.Walks.{part-ids}
+use Rattle.voting.proofs.Walks.{under-long, part-is, put-first}
 use borrow.Author.Needs.{needs}
 use Rattle.voting.proofs.gather_key.Statement.{statement}
 use Rattle.voting.proofs.gather_key.Tie as tie
 
-part-at-requires : tie.Need-part-at-requires
-part-at-requires c κs = let s = c .before in (omega arith, s .pre .0, s .pre .1, s .pre .2)
+module _ (s : tie.Start) where
+  abbrev found : List (List ℕ)
+  found = under keyOf (s .args .key) (entries 3 (s .args .p) (s .args .posts .now))
 
-gather-part-requires : tie.Need-gather-part-requires
-gather-part-requires c κs =
-    let s = c .before .before .before in
-    let ps = s .args .posts .now in
-    let p = s .args .p in
-    let key = s .args .key in
-    rw (c .before .part-at .ensures, part-many 3 ps p key (omega arith) (s .pre .0), part-entries ps 3 p key (s .pre .0))
-    (omega arith, omega (arith, part-length ps 3 p key (s .pre .0)), part-ids 3 ps p key (s .pre .3), s .pre .5, s .pre .6)
+  many : length found ≡ s .args .end - s .args .start
+  many = under-long (s .args .posts .now) (s .args .p) (s .args .key) (s .args .start) (s .args .end) (s .pre .0) (s .pre .1) (s .pre .2) (s .pre .3)
+
+  part : entries 3 (s .args .end - s .args .start) (flat found) ≡ found
+  part = part-is (s .args .posts .now) (s .args .p) (s .args .key) (s .args .start) (s .args .end) (s .pre .0) (s .pre .1) (s .pre .2) (s .pre .3)
+
+sub-n : tie.Need-sub-n
+sub-n c = let s = c .before in omega (arith, s .pre .2, s .pre .3, first-le (s .args .posts .now) 3 (s .args .p) (s .args .key) (s .pre .1))
+
+cast-n : tie.Need-cast-n
+cast-n c = search needs
+
+gather-first-requires : tie.Need-gather-first-requires
+gather-first-requires c κs = search needs
 
 add-result : tie.Need-add-result
 add-result c = search needs
@@ -28,13 +42,41 @@ same-length c = search needs
 returns : tie.Need-returns
 returns c =
     let s = c .before .before .before .before .before in
-    let ps = s .args .posts .now in
-    let p = s .args .p in
-    let key = s .args .key in
-    let part = c .before .before .before .part-at .ensures in
-    let e = rw (part, part-many 3 ps p key (omega arith) (s .pre .0), part-entries ps 3 p key (s .pre .0)) at (c .before .gather-part .ensures) in
-    rw (part, part-many 3 ps p key (omega arith) (s .pre .0)) (refl, e)
+    let a = s .args in
+    (omega (arith, many s), put-first (a .posts .now) (a .p) (a .key) (a .start) (a .end) (s .pre .0) (s .pre .1) (s .pre .2) (s .pre .3) (a .shift) (a .q) (a .s .now) (c .before .gather-first .last .0) (a .at) (c .before .before .before .if1 .taken) (omega (arith, many s, s .pre .5)) (c .before .gather-first .ensures))
+
+part-of-requires : tie.Need-part-of-requires
+part-of-requires c κs = search needs
+
+gather-part-requires : tie.Need-gather-part-requires
+gather-part-requires c κs =
+    let s = c .before .before .before .before in
+    let a = s .args in
+    rw (c .before .part-of .ensures, part s) (omega (arith, many s, s .pre .5), omega (arith, many s, part-length (a .posts .now) 3 (a .p) (a .key) (s .pre .0)), part-ids 3 (a .posts .now) (a .p) (a .key) (s .pre .4), s .pre .6, s .pre .7)
+
+add-result-2 : tie.Need-add-result-2
+add-result-2 c = search needs
+
+same-length-2 : tie.Need-same-length-2
+same-length-2 c = search needs
+
+returns-2 : tie.Need-returns-2
+returns-2 c =
+    let s = c .before .before .before .before .before .before in
+    (omega (arith, many s), rw (c .before .before .before .part-of .ensures, part s) at (c .before .gather-part .ensures))
 
 pub gather-key-spec : {M : Type 1} → statement M
 gather-key-spec =
-    tie.close (tie.spec part-at-requires gather-part-requires add-result same-length returns)
+    tie.close
+    (tie.spec
+    sub-n
+    cast-n
+    gather-first-requires
+    add-result
+    same-length
+    returns
+    part-of-requires
+    gather-part-requires
+    add-result-2
+    same-length-2
+    returns-2)

@@ -24,47 +24,14 @@ loop-holds c =
     let e : a .at + 0 ≡ a .at = omega arith in
     (omega arith, rw e (put-none (wordWith (a .shift) (a .q)) 3 (a .part .now) (take (a .at) (a .s .now))), refl)
 
-mul-k : tie.Need-mul-k Inv-loop μ-loop
-mul-k c = search needs
+add-put-posting : tie.Need-add-put-posting Inv-loop μ-loop
+add-put-posting c = search needs
 
-add-wide : tie.Need-add-wide Inv-loop μ-loop
-add-wide c = search needs
-
-mul-wide : tie.Need-mul-wide Inv-loop μ-loop
-mul-wide c = search needs
-
-shared-slice-read-wide : tie.Need-shared-slice-read-wide Inv-loop μ-loop
-shared-slice-read-wide c = search needs
-
-wide-requires : tie.Need-wide-requires Inv-loop μ-loop
-wide-requires c κs = search needs
-
-add-wide-2 : tie.Need-add-wide-2 Inv-loop μ-loop
-add-wide-2 c = search needs
-
-mul-wide-2 : tie.Need-mul-wide-2 Inv-loop μ-loop
-mul-wide-2 c = search needs
-
-shared-slice-read-wide-2 : tie.Need-shared-slice-read-wide-2 Inv-loop μ-loop
-shared-slice-read-wide-2 c = search needs
-
-wide-requires-2 : tie.Need-wide-requires-2 Inv-loop μ-loop
-wide-requires-2 c κs = search needs
-
-add-put-word : tie.Need-add-put-word Inv-loop μ-loop
-add-put-word c = search needs
-
-add-pack : tie.Need-add-pack Inv-loop μ-loop
-add-pack c = search needs
-
-pack-requires : tie.Need-pack-requires Inv-loop μ-loop
-pack-requires c κs =
-    let s = c .before .before .before .before .before .before .before .before in
-    let id = id-below 3 (omega arith) (s .args .part .now) (s .args .n) (c .before .before .before .before .before .before .loop .j) (s .pre .2) (omega arith) in
-    (rw (c .before .before .before .wide .ensures .0) id, omega (arith, c .before .wide2 .ensures .1), s .pre .4)
-
-put-word-requires : tie.Need-put-word-requires Inv-loop μ-loop
-put-word-requires c κs = (omega arith, omega (arith, c .pack .ensures .1))
+put-posting-requires : tie.Need-put-posting-requires Inv-loop μ-loop
+put-posting-requires c κs =
+    let s = c .before .before .before .before in
+    let j = c .before .before .loop .j in
+    (omega (arith, s .pre .0), omega (arith, s .pre .1), id-below 3 (omega arith) (s .args .part .now) (s .args .n) j (s .pre .2) (omega arith), s .pre .3, s .pre .4)
 
 add-j : tie.Need-add-j Inv-loop μ-loop
 add-j c = search needs
@@ -74,10 +41,10 @@ loop-less c = search needs
 
 loop-again : tie.Need-loop-again Inv-loop μ-loop
 loop-again c =
-    let s = c .before .before .before .before .before .before .before .before .before .before .before in
-    let l = c .before .before .before .before .before .before .before .before .before .loop in
+    let s = c .before .before .before .before .before .before in
+    let l = c .before .before .before .before .loop in
     let e = put-word (s .args .part .now) (s .args .shift) (s .args .q) (s .args .s .now) (l .s) (s .args .at) (l .j) (l .inv .1) (omega arith) in
-    (omega arith, rw (c .before .put-word .ensures, c .before .before .pack .ensures .0, c .before .before .before .before .wide2 .ensures .0, c .before .before .before .before .before .before .wide .ensures .0) e, c .before .put-word .kept .0 ∙ l .inv .2)
+    (omega arith, rw (c .before .put-posting .ensures) e, c .before .put-posting .kept .0 ∙ l .inv .2)
 
 same-length : tie.Need-same-length Inv-loop μ-loop
 same-length c = c .before .loop .inv .2
@@ -95,19 +62,8 @@ gather-part-spec =
     Inv-loop
     μ-loop
     loop-holds
-    mul-k
-    add-wide
-    mul-wide
-    shared-slice-read-wide
-    wide-requires
-    add-wide-2
-    mul-wide-2
-    shared-slice-read-wide-2
-    wide-requires-2
-    add-put-word
-    add-pack
-    pack-requires
-    put-word-requires
+    add-put-posting
+    put-posting-requires
     add-j
     loop-less
     loop-again
