@@ -19,7 +19,7 @@ use Rattle.hough.specs.Keys.{row, key, Ready, Around, atStart, betterOf,
 use Rattle.hough.specs.declared.Peak.{Peak}
 use Rattle.hough.specs.declared.Background.{Background}
 use Rattle.hough.specs.declared.Windows.{Windows}
-use Rattle.hough.proofs.Places.{threeSums, keys-up, hough-is, hough-le}
+use Rattle.hough.proofs.Places.{threeSums, keys-up, hough-is, hough-small}
 
 -- ---- three windows
 
@@ -57,12 +57,15 @@ leads-more f i p L = go (ltb (p .votes) (f i)) refl
     go false e = leads-on f i (i + 1) (p .votes) (p .at) (f i) L (omega arith) one (ltb-false (p .votes) (f i) e)
 
 module _ (l : List ℤ) (n tol : ℕ) (p : Peak) (L : Leads (houghSum l n tol) n (p .votes) (p .at)) where
-  pub peak-is : p ≡ houghPeak l n tol
+  peak-is : p ≡ houghPeak l n tol
   unfolding houghPeak
   peak-is = λ i. record { votes = sym (leads-greatest L) i; at = sym (leads-first L) i }
 
-  pub peak-small : Bins l n → p .votes ≤ 1000000
-  peak-small b = elim (decLt 0 n) [ yes u ↦ omega (arith, L .some u .1, hough-le l n tol (p .at), b .sum) | no u ↦ omega (arith, L .none (omega arith) .1) ]
+  peak-small : Bins l n → p .votes ≤ 1000000
+  peak-small b = elim (decLt 0 n) [ yes u ↦ omega (arith, L .some u .1, hough-small l n b tol (p .at) n (omega arith)) | no u ↦ omega (arith, L .none (omega arith) .1) ]
+
+  pub peak-found : Bins l n → (p ≡ houghPeak l n tol) × ((0 < n → p .at < n) × (p .votes ≤ 1000000))
+  peak-found b = (peak-is, ((λ u. L .some u .0), peak-small b))
 
 -- ---- the background
 

@@ -5,14 +5,16 @@
 // Scale bin and offset make one number, the bin's key: a row of 2^41 for each scale bin, and in it a
 // place for the offset, with the offset 0 in the middle. The keys ascend, and the neighbours of a bin
 // are those whose keys lie within the tolerance of its own, or of the same place one row down or up.
-// So three windows slide over the bins, each by two indices that only grow.
+// So three windows slide over the bins, each by two indices that only grow. The sums of a handful of
+// bins are worked out directly.
 ghost use mathlib.Core.Path.{_≡_};
-ghost use mathlib.Core.Bool.{_||_};
+ghost use mathlib.Core.Bool.{_&&_, _||_};
 ghost use Prim.Native.Nat.{ℕ, _+_, _-_, _*_, _<_, _≤_, _^_};
 ghost use lib.ListN.{length, getD};
 ghost use lib.IntN.{pos};
 ghost use lib.Dec.{leb, ltb};
 ghost use Rattle.lists.specs.Every.{every};
+ghost use Rattle.maps.specs.Sums.{when};
 ghost use Rattle.consolidate.specs.Windows.{Passed, Slides, Covers};
 ghost use Rattle.hough.specs.Hough.{scale, offset, votes, dist, far, houghSum, houghPeak, peakOffset, farSum, farCount, meanOf, prominence};
 ghost use Rattle.hough.specs.Limits.{before, Bins, binOk, binsOk, answerAt, checkedAnswer};
@@ -24,6 +26,9 @@ use consolidate::Window;
 const ROW: u64 = 0x200_0000_0000;
 
 const MIDDLE: i64 = 0x100_0000_0000;
+
+// For so few bins, looking at every pair is cheaper than sliding windows.
+const FEW: usize = 8;
 
 // The greatest sum, and the first bin that has it.
 pub struct Peak {
@@ -90,6 +95,44 @@ fn key_at(s: &[i64], n: usize, i: usize) -> u64
 {
     let row = scale_at(s, n, i) + 1;
     row * ROW + place_at(s, n, i)
+}
+
+// ---- a few bins
+
+// Rust's `a.abs_diff(b)`.
+fn abs_diff(a: u64, b: u64) -> u64
+    ensures { λ r. ⌜ r ≡ dist a b ⌝ }
+{
+    if a <= b { b - a } else { a - b }
+}
+
+// The count of bin i where it is a neighbour of a bin of scale bin k at place x, else 0.
+fn near_votes(s: &[i64], n: usize, tol: u64, k: u64, x: u64, i: usize) -> u64
+    requires { ⌜ Bins (now s) n × (i < n) ⌝ }
+    ensures { λ r. ⌜ r ≡ when (leb (dist k (scale (now (s .entry)) i)) 1 && leb (dist x (place (now (s .entry)) i)) tol) (votes (now (s .entry)) i) ⌝ }
+{
+    let scales = abs_diff(k, scale_at(s, n, i));
+    let frames = abs_diff(x, place_at(s, n, i));
+    if (scales <= 1) & (frames <= tol) {
+        return votes_at(s, n, i);
+    }
+    0
+}
+
+// The sum of the counts of bin i's neighbours, by a look at every bin.
+fn direct_sum(s: &[i64], n: usize, tol: u64, i: usize) -> u64
+    requires { ⌜ Bins (now s) n × (i < n) ⌝ }
+    ensures { λ r. ⌜ r ≡ houghSum (now (s .entry)) n tol i ⌝ }
+{
+    let k = scale_at(s, n, i);
+    let x = place_at(s, n, i);
+    let mut sum: u64 = 0;
+    let mut j: usize = 0;
+    while j < n {
+        sum += near_votes(s, n, tol, k, x, j);
+        j += 1;
+    }
+    sum
 }
 
 // ---- windows
@@ -192,12 +235,30 @@ fn better(p: Peak, i: usize, v: u64) -> Peak
     p
 }
 
+// The peak, each sum worked out directly.
+fn direct_peak(s: &[i64], n: usize, tol: u64) -> Peak
+    requires { ⌜ Bins (now s) n ⌝ }
+    ensures { λ r. ⌜ r ≡ houghPeak (now (s .entry)) n tol ⌝ }
+    ensures { λ r. ⌜ (0 < n → r .at < n) × (r .votes ≤ 1000000) ⌝ }
+{
+    let mut best = Peak { votes: 0, at: 0 };
+    let mut i: usize = 0;
+    while i < n {
+        best = better(best, i, direct_sum(s, n, tol, i));
+        i += 1;
+    }
+    best
+}
+
 // The greatest sum, and the first bin that has it.
 pub fn panako_hough_peak(s: &[i64], n: usize, tol: u64) -> Peak
     requires { ⌜ Bins (now s) n × (tol ≤ 65535) ⌝ }
     ensures { λ r. ⌜ r ≡ houghPeak (now (s .entry)) n tol ⌝ }
     ensures { λ r. ⌜ (0 < n → r .at < n) × (r .votes ≤ 1000000) ⌝ }
 {
+    if n <= FEW {
+        return direct_peak(s, n, tol);
+    }
     let mut t = at_start();
     let mut best = Peak { votes: 0, at: 0 };
     let mut i: usize = 0;
@@ -210,13 +271,6 @@ pub fn panako_hough_peak(s: &[i64], n: usize, tol: u64) -> Peak
 }
 
 // ---- the prominence
-
-// Rust's `a.abs_diff(b)`.
-fn abs_diff(a: u64, b: u64) -> u64
-    ensures { λ r. ⌜ r ≡ dist a b ⌝ }
-{
-    if a <= b { b - a } else { a - b }
-}
 
 // Bin i is out of the reach of bin a.
 fn is_far(s: &[i64], n: usize, tol: u64, a: usize, i: usize) -> bool

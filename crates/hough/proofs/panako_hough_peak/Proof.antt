@@ -6,7 +6,7 @@ use Rattle.hough.specs.Hough.{houghSum}
 use Rattle.consolidate.specs.Runs.{Leads}
 use Rattle.consolidate.proofs.Leading.{leads-none}
 use Rattle.hough.specs.Keys.{key, Ready}
-use Rattle.hough.proofs.Walking.{ready-none, ready-next, leads-more, peak-is, peak-small}
+use Rattle.hough.proofs.Walking.{ready-none, ready-next, leads-more, peak-found}
 use Rattle.hough.proofs.panako_hough_peak.Statement.{statement}
 use Rattle.hough.proofs.panako_hough_peak.Tie as tie
 
@@ -16,15 +16,21 @@ Inv-loop s n tol t₀ best₀ i₀ t best i = (i ≤ n) × (i < n → Ready s n 
 abbrev μ-loop : tie.MeasureT-loop
 μ-loop s n tol t₀ best₀ i₀ t best i = n - i
 
+direct-peak-requires : tie.Need-direct-peak-requires Inv-loop μ-loop
+direct-peak-requires c κs = search needs
+
+returns : tie.Need-returns Inv-loop μ-loop
+returns c = search needs
+
 at-start-requires : tie.Need-at-start-requires Inv-loop μ-loop
 at-start-requires c κs = search needs
 
 loop-holds : tie.Need-loop-holds Inv-loop μ-loop
-loop-holds c = let o = c .before in (omega arith, (λ h. rw (c .at-start .ensures) (ready-none _ _ _ _)), leads-none _)
+loop-holds c = (omega arith, (λ h. rw (c .at-start .ensures) (ready-none _ _ _ _)), leads-none _)
 
 stepped-requires : tie.Need-stepped-requires Inv-loop μ-loop
 stepped-requires c κs =
-    let o = c .before .before .before in
+    let o = c .before .before .before .before in
     let v = c .before .loop .inv in
     (o .pre .0, o .pre .1, c .loop-test .taken, v .1 (c .loop-test .taken))
 
@@ -39,7 +45,7 @@ loop-less c = search needs
 
 loop-again : tie.Need-loop-again Inv-loop μ-loop
 loop-again c =
-    let o = c .before .before .before .before .before in
+    let o = c .before .before .before .before .before .before in
     let h = c .before .before .before .loop in
     let e = c .before .stepped .ensures in (
       omega (arith, c .before .before .loop-test .taken),
@@ -47,13 +53,12 @@ loop-again c =
       rw (c .better .ensures, e .1) (leads-more _ (h .i) (h .best) (h .inv .2)),
     )
 
-returns : tie.Need-returns Inv-loop μ-loop
-returns c =
-    let o = c .before .before .before in
+returns-2 : tie.Need-returns-2 Inv-loop μ-loop
+returns-2 c =
+    let o = c .before .before .before .before in
     let h = c .before .loop in
     let z : h .i ≡ o .args .n = omega (arith, h .inv .0, c .loop-test .left) in
-    let L : Leads (houghSum (o .args .s .now) (o .args .n) (o .args .tol)) (o .args .n) (h .best .votes) (h .best .at) = rw z at (h .inv .2) in
-    (peak-is _ _ _ (h .best) L, ((λ u. L .some u .0), peak-small _ _ _ (h .best) L (o .pre .0)))
+    peak-found _ _ _ (h .best) (rw z at (h .inv .2)) (o .pre .0)
 
 pub panako-hough-peak-spec : {M : Type 1} → statement M
 panako-hough-peak-spec =
@@ -61,6 +66,8 @@ panako-hough-peak-spec =
     (tie.spec
     Inv-loop
     μ-loop
+    direct-peak-requires
+    returns
     at-start-requires
     loop-holds
     stepped-requires
@@ -68,4 +75,4 @@ panako-hough-peak-spec =
     add-i
     loop-less
     loop-again
-    returns)
+    returns-2)

@@ -1,7 +1,7 @@
 use mathlib.Core.Path.{_∙_}
 use native.Mathlib.Omega.{arith}
 use Rattle.hough.proofs.Walking.{around-sum}
-use Rattle.hough.proofs.Places.{hough-le}
+use Rattle.hough.proofs.Places.{hough-small}
 use borrow.Author.Needs.{needs}
 use Rattle.hough.proofs.stepped.Statement.{statement}
 use Rattle.hough.proofs.stepped.Tie as tie
@@ -22,7 +22,7 @@ returns c =
     let l = o .args .s .now in
     let v = rw (k .0) at (c .around .ensures .0) in
     let e = c .around .ensures .1 ∙ around-sum l (o .args .n) (o .args .tol) (o .pre .0) (o .args .i) (c .around .result) (o .pre .1) (o .pre .2) v in
-    (v, e, omega (arith, e, hough-le l (o .args .n) (o .args .tol) (o .args .i), o .pre .0 .sum))
+    (v, e, omega (arith, e, hough-small l (o .args .n) (o .pre .0) (o .args .tol) (o .args .i) (o .args .n) (omega arith)))
 
 pub stepped-spec : {M : Type 1} → statement M
 stepped-spec = tie.close (tie.spec key-at-requires around-requires returns)
