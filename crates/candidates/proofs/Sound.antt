@@ -3,7 +3,7 @@ use mathlib.Core.Path.{_≡_}
 use mathlib.Core.Bool.{true, false}
 use mathlib.Core.List.{List}
 use Prim.Native.Nat.{ℕ, _+_, _*_, _-_, _/_, _≤_, _<_}
-use native.Mathlib.Nat.{mul-le-mul-left, mul-div-le}
+use native.Mathlib.Nat.{mul-le-mul-left, mul-le-mul-right, mul-div-le}
 use native.Mathlib.Omega.{arith}
 use lib.ListN.{length, getD}
 use lib.Dec.{leb, ltb}
@@ -68,12 +68,12 @@ module _ (w : ℕ) (w2 : 2 ≤ w) (m : Words) (l : listed w m ≡ true) (s : sou
   postings-there = rw (postings-long w m w2 l) (mul-le-mul-left w (F .postings-fit))
 
   -- the postings and the query's hashes can be searched
-  pub sought : (hs : List ℕ) → malformed w queryMost hs ≡ false → Sought ps w p hs (w - 1) (length (hashesOf w hs))
-  sought hs e = record {
+  pub sought : w ≤ 8 → (hs : List ℕ) → malformed w queryMost hs ≡ false → Sought ps w p hs (w - 1) (length (hashesOf w hs))
+  sought w8 hs e = record {
     posting = omega arith;
     postings = postings-there;
     ascend = F .keys;
-    counted = omega (arith, postings-few);
+    counted = let l = mul-le-mul-right p w8 in omega (arith, postings-few);
     hash = omega arith;
     hashes = rw (hashes-long w hs) (mul-div-le (length hs) (w - 1));
     few = rw (hashes-long w hs) (few-hashes w hs e);

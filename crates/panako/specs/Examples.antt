@@ -30,8 +30,8 @@ use Rattle.model.specs.History.{leaves}
 use Rattle.model.specs.Changes.{rate, Material, allRight}
 use Rattle.hough.specs.Hough.{houghSum, houghPeak, merged, peakOffset, farSum, farCount, prominence}
 use Rattle.panako_vote.specs.Settings.{normalised, withinLimits}
-use Rattle.panako_vote.specs.Grids.{gridOf}
-use Rattle.panako_vote.specs.Votes.{binAt, voteAt, voteOn}
+use Rattle.panako_vote.specs.Grids.{binAt, gridOf}
+use Rattle.panako_vote.specs.Votes.{voteAt, voteOn}
 use Rattle.judging.specs.Gates.{peakGates, gates, resultAt}
 use Rattle.bins.specs.Codes.{occupied, binsOf}
 use Rattle.panako_judging.specs.Judge.{seenOf, scaleOf, judgeBy}

@@ -22,8 +22,8 @@ use Rattle.consolidate.specs.Modes.{mode}
 use Rattle.hough.specs.Hough.{houghSum, houghPeak, merged, peakOffset, farSum, farCount, prominence}
 use Rattle.bins.specs.Codes.{occupied, binsOf}
 use Rattle.panako_vote.specs.Settings.{normalised, withinLimits}
-use Rattle.panako_vote.specs.Grids.{gridOf}
-use Rattle.panako_vote.specs.Votes.{binAt, voteAt, voteOn}
+use Rattle.panako_vote.specs.Grids.{binAt, gridOf}
+use Rattle.panako_vote.specs.Votes.{voteAt, voteOn}
 use Rattle.model.specs.Fingerprints.{Hash}
 use Rattle.judging.specs.Gates.{peakGates, gates, resultAt}
 use Rattle.panako_judging.specs.Judge.{Vote, seenOf, scaleOf, judgeBy}

@@ -63,7 +63,7 @@ module _ (m : Words) (a : Ask) (hs : List ℕ) (s : List ℤ) (r : ℕ) (e : r �
     searchable = record {
       limits = record { rows = sound.rows-there 5 (omega arith) m (P .is-listed) (P .is-sound); many = many; tolerance = A .tolerance };
       packable = record {
-        walk = sound.sought 5 (omega arith) m (P .is-listed) (P .is-sound) hs (P .formed);
+        walk = sound.sought 5 (omega arith) m (P .is-listed) (P .is-sound) (omega arith) hs (P .formed);
         ids = all-imp Live (λ x. getD x 1 0 < 2 ^ 12) (λ x h. omega (arith, h .0, many)) es live;
         grid = grid;
       };

@@ -89,8 +89,11 @@ fn search_in(
     ranking::answer_of(best)
 }
 
-// The most hashes of a query whose starts and ends stand in small arrays: to clear large ones costs a small query more than the search itself.
-const FEW: usize = 256;
+// The most hashes of a query whose starts and ends stand in small arrays, and in larger ones: to clear the largest costs a small query more than
+// the search itself.
+const FEW: usize = 64;
+
+const SOME: usize = 512;
 
 // The same with arrays for where the postings of each hash begin and end.
 fn search(s: &mut [i64], refs: &[u32], posts: &[u32], hashes: &[u32], q: PanakoQuery) -> Finding
@@ -99,8 +102,13 @@ fn search(s: &mut [i64], refs: &[u32], posts: &[u32], hashes: &[u32], q: PanakoQ
     ensures { λ _. ⌜ now (s .exit) ≡ scratchAfter (answerIn q (length (now (s .entry)) / 12) (now (refs .entry)) (now (posts .entry)) (now (hashes .entry))) (now (s .entry)) ⌝ }
 {
     if q.q_len <= FEW {
-        let mut starts = [0u32; 256];
-        let mut ends = [0u32; 256];
+        let mut starts = [0u32; 64];
+        let mut ends = [0u32; 64];
+        return search_in(s, refs, posts, hashes, q, &mut starts, &mut ends);
+    }
+    if q.q_len <= SOME {
+        let mut starts = [0u32; 512];
+        let mut ends = [0u32; 512];
         return search_in(s, refs, posts, hashes, q, &mut starts, &mut ends);
     }
     let mut starts = [0u32; 2048];

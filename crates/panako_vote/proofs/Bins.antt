@@ -15,7 +15,7 @@ use Rattle.floats.specs.Selection.{zero}
 use Rattle.floats.proofs.Exactly.{Cut, cut-of-value}
 use Rattle.lists.proofs.Tests.{test}
 use Rattle.floats.proofs.Order.{lt-asymmetric, lt-transitive}
-use Rattle.panako_vote.specs.Votes.{whole, binAt}
+use Rattle.panako_vote.specs.Grids.{whole, binAt}
 use Rattle.panako_vote.proofs.Sizes.{whole-value}
 
 -- ---- a value y that equals t
@@ -70,7 +70,7 @@ same-cut (fin false m e) p h = capped (m * up e / down e) h
     capped : (q : ℕ) → q < 4294967296 → min q 18446744073709551615 ≡ min q 4294967295
     capped q h = omega arith
 
-in-format : (t : ℕ) → t < 2 ^ 32 → t ≤ 2 ^ 53
+pub in-format : (t : ℕ) → t < 2 ^ 32 → t ≤ 2 ^ 53
 in-format t few = le-trans (le-of-lt few) (lit≤ tt)
 
 pub whole-is : (t : ℕ) → t < 2 ^ 32 → HasValue (whole t) false t 1

@@ -14,8 +14,8 @@ use lib.Ieee.Positive.{through}
 use Rattle.floats.specs.Rounding.{halfUp, roundToI64}
 use Rattle.lists.proofs.Tests.{test}
 use Rattle.panako_vote.specs.Settings.{Accepted}
-use Rattle.panako_vote.specs.Grids.{gridOf, Limited}
-use Rattle.panako_vote.specs.Votes.{whole, outside, offsetAt, voteAt, span, scaleOf, voteOn, pairVote, InRange, Bounded}
+use Rattle.panako_vote.specs.Grids.{whole, outside, gridOf, Limited}
+use Rattle.panako_vote.specs.Votes.{offsetAt, voteAt, span, scaleOf, voteOn, pairVote, InRange, Bounded}
 use Rattle.panako_vote.specs.declared.PanakoMatchConfig.{PanakoMatchConfig}
 use Rattle.panako_vote.specs.declared.ScaleGrid.{ScaleGrid}
 use Rattle.panako_vote.specs.declared.Vote.{Vote}
@@ -108,9 +108,9 @@ unfolding gridOf
 pair-bounded cfg A = vote-bounded (gridOf cfg) (limited cfg A)
 
 -- what `pair_vote` promises of its result
-pub with-bounds : (g : ScaleGrid) (v : Vote) (qa qc ra rc : ℕ) → qa < 2 ^ 32 → qc < 2 ^ 32 → ra < 2 ^ 32 → rc < 2 ^ 32
-    → v ≡ voteOn g qa qc ra rc → (v ≡ voteOn g qa qc ra rc) × (Limited g → Bounded (g .«last_bin») v)
-with-bounds g v qa qc ra rc QA QC RA RC e = (e, λ L. subst (Bounded (g .«last_bin»)) (sym e) (vote-bounded g L qa qc ra rc QA QC RA RC))
+pub with-bounds : (g : ScaleGrid) → Limited g → (v : Vote) (qa qc ra rc : ℕ) → qa < 2 ^ 32 → qc < 2 ^ 32 → ra < 2 ^ 32 → rc < 2 ^ 32
+    → v ≡ voteOn g qa qc ra rc → (v ≡ voteOn g qa qc ra rc) × Bounded (g .«last_bin») v
+with-bounds g L v qa qc ra rc QA QC RA RC e = (e, subst (Bounded (g .«last_bin»)) (sym e) (vote-bounded g L qa qc ra rc QA QC RA RC))
 
 -- 2^39 more than an offset is a natural number of 40 bits
 pub shifted : (z : ℤ) → InRange z → (n : ℕ) × ((z +ℤ pos (2 ^ 39) ≡ pos n) × (n < 2 ^ 40))

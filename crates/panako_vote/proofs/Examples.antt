@@ -1,18 +1,21 @@
 -- Worked examples, computed from the definitions. Assumes nothing.
 use mathlib.Core.Path.{_≡_, refl}
-use mathlib.Core.Bool.{true}
+use mathlib.Core.Bool.{true, false}
 use Prim.Native.Nat.{ℕ}
 use lib.IntN.{pos, negsuc}
-use lib.Ieee.{Float, nan, inf, add, sub, mul, div, lt, le, ofInt, toUnsigned}
+use lib.Ieee.{Float, nan, inf, fin, add, sub, mul, div, lt, le, ofInt, toUnsigned}
 use Rattle.floats.specs.Rounding.{roundToI64}
 use Rattle.floats.specs.Selection.{zero, one, abs}
 use Rattle.matching.specs.Scales.{two, perBin}
 use Rattle.panako_vote.specs.Settings.{defaultMin, defaultMax, normalised, withinLimits}
-use Rattle.panako_vote.specs.Grids.{gridOf}
-use Rattle.panako_vote.specs.Votes.{binAt, voteAt, voteOn, pairVote, checkedVote}
+use Rattle.panako_vote.specs.Grids.{binAt, gridOf}
+use Rattle.panako_vote.specs.Votes.{voteAt, voteOn, pairVote, checkedVote}
 use Rattle.panako_vote.specs.declared.PanakoMatchConfig.{PanakoMatchConfig}
 use Rattle.panako_vote.specs.declared.Vote.the-variants.{Nothing, At}
 use Rattle.panako_vote.specs.declared.CheckedVote.the-variants as Checked
+
+abbrev four : Float
+four = fin false 1 (pos 2)
 
 abbrev settings : Float → Float → ℕ → ℕ → PanakoMatchConfig
 settings min max bins tolerance =
@@ -48,6 +51,16 @@ votes :
     × (pairVote grid 9 4 7 16 ≡ Nothing)
 unfolding gridOf perBin voteOn voteAt binAt roundToI64 add sub mul div lt ofInt toUnsigned
 votes = (refl, refl, refl, refl, refl, refl, refl)
+
+-- equal spans: scale 1 lies in bin 0 of that grid, and below a grid of scales from 2 to 4
+units :
+    (gridOf grid .«unit_bin» ≡ 0)
+    × (gridOf grid .«unit_votes» ≡ true)
+    × (pairVote grid 250 260 100 110 ≡ At 0 (negsuc 149))
+    × (gridOf (settings two four 2 1) .«unit_votes» ≡ false)
+    × (pairVote (settings two four 2 1) 250 260 100 110 ≡ Nothing)
+unfolding gridOf perBin voteOn voteAt binAt roundToI64 add sub mul div lt ofInt toUnsigned
+units = (refl, refl, refl, refl, refl)
 
 -- "Tolerance 65,535 passes; 65,536 is refused 4."
 tolerances : (withinLimits (settings one two 4096 65535) ≡ true) × (checkedVote (settings one two 2 65536) 0 4 7 10 ≡ Checked.Refused)

@@ -15,8 +15,7 @@ use Rattle.lists.proofs.Tests.{test}
 use Rattle.floats.proofs.Order.{le-of-not-lt}
 use Rattle.matching.specs.Scales.{half, perBin}
 use Rattle.panako_vote.specs.Settings.{binsOf, normalised, sixtyFour, withinLimits, Accepted}
-use Rattle.panako_vote.specs.Grids.{per, gridOf, Limited}
-use Rattle.panako_vote.specs.Votes.{whole}
+use Rattle.panako_vote.specs.Grids.{whole, per, gridOf, Limited}
 use Rattle.panako_vote.specs.declared.PanakoMatchConfig.{PanakoMatchConfig}
 use Rattle.panako_vote.specs.declared.ScaleGrid.{ScaleGrid}
 use Rattle.panako_vote.proofs.Sizes.{Small, whole-value, small-add, small-sub, small-half, small-div}
@@ -70,6 +69,8 @@ module _ (cfg : PanakoMatchConfig) (A : Accepted cfg) where
             small-le 7 (add binary64 (cfg .«scale_max») (mul binary64 (per cfg) half))
             (small-add binary64 6 (cfg .«scale_max») (mul binary64 (per cfg) half) (lit< tt) small-max (small-half binary64 6 (per cfg) (lit< tt) small-per));
         last = below (cfg .«scale_bins») (A .fewBins);
+        unitBin = refl;
+        unitVotes = refl;
       }
     where
       below : (n : ℕ) → n ≤ 4096 → n - 1 < 4096

@@ -6,7 +6,8 @@ use native.Mathlib.Omega.{arith}
 use lib.Dec.{ltb, eqb}
 use borrow.Author.Tests.{ltb-true, ltb-false, eq-eqb, ne-eqb}
 use Rattle.lists.proofs.Tests.{test}
-use Rattle.panako_vote.specs.Votes.{outside, scaleBin, offsetAt, noneIf, voteAt, span, scaleOf, voteOn, isVote}
+use Rattle.panako_vote.specs.Grids.{outside, scaleBin}
+use Rattle.panako_vote.specs.Votes.{offsetAt, noneIf, voteAt, span, scaleOf, voteOn, isVote}
 use Rattle.panako_vote.specs.declared.ScaleGrid.{ScaleGrid}
 use Rattle.panako_vote.specs.declared.Vote.{Vote}
 use Rattle.panako_vote.specs.declared.Vote.the-variants.{Nothing, At}

@@ -201,7 +201,7 @@ some : (p : ℕ) (d : ℤ) (n : ℕ) → p * up d * 1 ≡ n * down d → 0 < n �
 some zero d n v N = absurd (lt-irrefl 0 (subst (λ (z : ℕ). 0 < z) (sym v ∙ mul-one (0 * up d) ∙ zero-mul (up d)) (mul-pos N (down-pos d))))
 some (suc p) d n v N = zero-lt-suc p
 
-not-zero : (p : ℕ) → 0 < p → p ≡ 0 → ⊥
+pub not-zero : (p : ℕ) → 0 < p → p ≡ 0 → ⊥
 not-zero p h e = omega arith
 
 pub sized-div : (f : Format) (k : ℕ) (s : Bool) (x y : Float) (n : ℕ) → k < emax f → Sized s k x → HasValue y false n 1 → 0 < n → Sized s k (div f x y)

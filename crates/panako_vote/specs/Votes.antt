@@ -3,33 +3,16 @@ use mathlib.Core.Bool.{Bool, true, false, _||_}
 use Prim.Native.Nat.{ℕ, _-_, _^_, _≤_, _<_}
 use lib.IntN.{ℤ, pos, negsuc}
 use lib.Dec.{eqb}
-use lib.Ieee.{Float, binary64, sub, mul, div, lt, ofInt, toUnsigned}
+use lib.Ieee.{Float, binary64, sub, mul, div}
 use Rattle.floats.specs.Rounding.{roundToI64}
-use Rattle.floats.specs.Selection.{zero, clamp}
 use Rattle.panako_vote.specs.Settings.{normalised, withinLimits}
-use Rattle.panako_vote.specs.Grids.{gridOf}
+use Rattle.panako_vote.specs.Grids.{whole, outside, scaleBin, gridOf}
 use Rattle.panako_vote.specs.declared.PanakoMatchConfig.{PanakoMatchConfig}
 use Rattle.panako_vote.specs.declared.ScaleGrid.{ScaleGrid}
 use Rattle.panako_vote.specs.declared.Vote.{Vote}
 use Rattle.panako_vote.specs.declared.Vote.the-variants.{Nothing, At}
 use Rattle.panako_vote.specs.declared.CheckedVote.{CheckedVote}
 use Rattle.panako_vote.specs.declared.CheckedVote.the-variants as Checked
-
--- a whole number as an f64
-abbrev pub whole : ℕ → Float
-whole n = ofInt binary64 (pos n)
-
--- "no vote if s < scale_min − per × 0.5 or s > scale_max + per × 0.5"
-abbrev pub outside : ScaleGrid → Float → Bool
-outside g s = lt s (g .low) || lt (g .high) s
-
--- "held to 0 .. scale_bins − 1, whole part": the last bin is scale_bins − 1
-unfoldable pub binAt : Float → ℕ → ℕ
-binAt x last = toUnsigned 32 (clamp zero (whole last) x)
-
--- "Scale bin: (s − scale_min) / per, held to 0 .. scale_bins − 1, whole part."
-abbrev pub scaleBin : ScaleGrid → Float → ℕ
-scaleBin g s = binAt (div binary64 (sub binary64 s (g .«scale_min»)) (g .«scale_per_bin»)) (g .«last_bin»)
 
 -- "Offset: reference anchor − s × query anchor, rounded, halves away from zero."
 abbrev pub offsetAt : Float → ℕ → ℕ → ℤ

@@ -2,11 +2,15 @@
 // `normalize_config` of the reference's `panako.rs`, refusal 4, and the inner loop of
 // `PanakoIndex::query`.
 ghost use mathlib.Core.Path.{_≡_};
+ghost use mathlib.Core.Bool.{not, _&&_};
 ghost use Prim.Native.Nat.{_-_};
+ghost use lib.IntN.{pos, _-ℤ_};
+ghost use lib.Dec.{eqb, ltb};
 ghost use lib.Ieee.Scale.{finite};
 ghost use Rattle.panako_vote.specs.Settings.{ascending, binsOf, normalised, withinLimits, Accepted};
-ghost use Rattle.panako_vote.specs.Grids.{gridOf, Limited};
-ghost use Rattle.panako_vote.specs.Votes.{span, scaleOf, binAt, voteOn, isVote, Bounded, checkedVote};
+ghost use Rattle.panako_vote.specs.Grids.{binAt, gridOf, Limited};
+ghost use Rattle.panako_vote.specs.Votes.{span, scaleOf, noneIf, voteOn, isVote, Bounded, checkedVote};
+ghost use Rattle.panako_vote.specs.declared.Vote.the-variants.{At};
 
 // The settings that the index uses.
 pub struct PanakoMatchConfig {
@@ -70,6 +74,19 @@ fn saturating_sub(a: u32, b: u32) -> u32
     if b <= a { a - b } else { 0 }
 }
 
+// Rust's `x.clamp(0.0, last as f64) as u32`.
+pub fn scale_bin(x: f64, last: u32) -> u32
+    ensures { λ r. ⌜ r ≡ binAt x last ⌝ }
+{
+    if x > (last as f64) {
+        return last;
+    }
+    if x > 0.0 {
+        return std::num::truncating_f64_to_u64(x) as u32;
+    }
+    0
+}
+
 // The scale grid: what is worked out once for all pairs of a query.
 pub struct ScaleGrid {
     pub scale_min: f64,
@@ -77,6 +94,9 @@ pub struct ScaleGrid {
     pub low: f64,
     pub high: f64,
     pub last_bin: u32,
+    // The scale bin of scale 1, and whether scale 1 votes.
+    pub unit_bin: u32,
+    pub unit_votes: bool,
 }
 
 // The scale grid of these settings. Half a bin beyond each end still votes.
@@ -88,12 +108,19 @@ pub fn scale_grid(cfg: PanakoMatchConfig) -> ScaleGrid
     let scale_max: f64 = std::num::f32_to_f64_with_nan(cfg.scale_max);
     let scale_per_bin: f64 = matching::scale_per_bin(scale_min, scale_max, cfg.scale_bins);
     let slack: f64 = scale_per_bin * 0.5;
+    let low: f64 = scale_min - slack;
+    let high: f64 = scale_max + slack;
+    let last_bin = saturating_sub(cfg.scale_bins, 1);
+    let unit_bin = scale_bin((1.0 - scale_min) / scale_per_bin, last_bin);
+    let unit_votes = !((1.0 < low) | (1.0 > high));
     ScaleGrid {
         scale_min,
         scale_per_bin,
-        low: scale_min - slack,
-        high: scale_max + slack,
-        last_bin: saturating_sub(cfg.scale_bins, 1),
+        low,
+        high,
+        last_bin,
+        unit_bin,
+        unit_votes,
     }
 }
 
@@ -122,24 +149,35 @@ pub fn has_vote(g: ScaleGrid, q_anchor: u32, q_end: u32, r_anchor: u32, r_end: u
     (q_anchor < q_end) & (r_anchor < r_end) & !outside
 }
 
-// Rust's `x.clamp(0.0, last as f64) as u32`.
-pub fn scale_bin(x: f64, last: u32) -> u32
-    ensures { λ r. ⌜ r ≡ binAt x last ⌝ }
+// Whether the spans are equal and not empty: then the scale is 1.
+fn is_unit(q_anchor: u32, q_end: u32, r_anchor: u32, r_end: u32) -> bool
+    ensures { λ r. ⌜ r ≡ (eqb (span «r_anchor» «r_end») (span «q_anchor» «q_end») && ltb 0 (span «q_anchor» «q_end»)) ⌝ }
 {
-    if x > (last as f64) {
-        return last;
-    }
-    if x > 0.0 {
-        return std::num::truncating_f64_to_u64(x) as u32;
-    }
-    0
+    let span = saturating_sub(q_end, q_anchor);
+    (saturating_sub(r_end, r_anchor) == span) & (0 < span)
 }
 
-// The vote of the pair.
-pub fn pair_vote(g: ScaleGrid, q_anchor: u32, q_end: u32, r_anchor: u32, r_end: u32) -> Vote
-    ensures { λ v. ⌜ v ≡ voteOn g «q_anchor» «q_end» «r_anchor» «r_end» ⌝ }
-    ensures bounded { λ v. ⌜ (Limited g → Bounded (g .«last_bin») v) ⌝ }
+// The vote of a pair of scale 1.
+fn unit_vote(g: ScaleGrid, q_anchor: u32, r_anchor: u32) -> Vote
+    ensures { λ v. ⌜ v ≡ noneIf (not (g .«unit_votes»)) (At (g .«unit_bin») (pos «r_anchor» -ℤ pos «q_anchor»)) ⌝ }
 {
+    if g.unit_votes {
+        let bin = g.unit_bin;
+        let offset = (r_anchor as i64) - (q_anchor as i64);
+        return Vote::At { bin, offset };
+    }
+    Vote::Nothing
+}
+
+// The vote of the pair. Most pairs have equal spans, and need no float.
+pub fn pair_vote(g: ScaleGrid, q_anchor: u32, q_end: u32, r_anchor: u32, r_end: u32) -> Vote
+    requires { ⌜ Limited g ⌝ }
+    ensures { λ v. ⌜ v ≡ voteOn g «q_anchor» «q_end» «r_anchor» «r_end» ⌝ }
+    ensures bounded { λ v. ⌜ Bounded (g .«last_bin») v ⌝ }
+{
+    if is_unit(q_anchor, q_end, r_anchor, r_end) {
+        return unit_vote(g, q_anchor, r_anchor);
+    }
     if has_vote(g, q_anchor, q_end, r_anchor, r_end) {
         let s = pair_scale(q_anchor, q_end, r_anchor, r_end);
         let b = (r_anchor as f64) - s * (q_anchor as f64);

@@ -50,7 +50,7 @@ fn count_votes(
         let qa = hashes[k + 1];
         let qc = hashes[k + 3];
         let start = starts[i];
-        let part = maps::part_at(posts, 5, p, start, hashes[k]);
+        let part = maps::part_at(posts, 5, p, start / 5, hashes[k]);
         let n = part.len() / 5;
         let mut j = 0;
         while j < n {
@@ -60,7 +60,7 @@ fn count_votes(
             }
             j += 1;
         }
-        ends[i] = start + (n as u32);
+        ends[i] = start + 5 * (n as u32);
         i += 1;
     }
     v
@@ -136,7 +136,7 @@ fn gather_part(
     v
 }
 
-// The same with all of p postings that stand under a key, from `start` to before `end`.
+// The same with all of p postings that stand under a key, from word `start` to before word `end`.
 fn gather_key(
     s: &mut [i64],
     at: usize,
@@ -149,7 +149,7 @@ fn gather_key(
     qa: u32,
     qc: u32,
 ) -> usize
-    requires { ⌜ (5 * p ≤ length (now posts)) × (keysAscend (now posts) 5 p ≡ true) × (start ≡ firstAt (now posts) 5 p key) × (end ≡ firstAt (now posts) 5 p (key + 1)) × Ids (entries 5 p (now posts)) × Limited g
+    requires { ⌜ (5 * p ≤ length (now posts)) × (keysAscend (now posts) 5 p ≡ true) × (start ≡ 5 * firstAt (now posts) 5 p key) × (end ≡ 5 * firstAt (now posts) 5 p (key + 1)) × Ids (entries 5 p (now posts)) × Limited g
         × (at + length (wordsOn g qa qc (under keyOf key (entries 5 p (now posts)))) ≤ length (now s)) ⌝ }
     ensures { λ r. ⌜ (r ≡ at + length (wordsOn g qa qc (under keyOf key (entries 5 p (now (posts .entry))))))
         × (take r (now (s .exit)) ≡ take at (now (s .entry)) ++ wordsOn g qa qc (under keyOf key (entries 5 p (now (posts .entry))))) ⌝ }

@@ -59,7 +59,7 @@ module _ (m : Words) (a : Ask) (hs : List ℕ) (s : List ℤ) (r : ℕ) (e : r �
     searchable = record {
       limits = record { rows = sound.rows-there 3 (omega arith) m (P .is-listed) (P .is-sound); many = many; tolerance = near; short = rw (sound.hashes-long 3 hs) (sound.few-hashes 3 hs (P .formed)) };
       packable = record {
-        walk = sound.sought 3 (omega arith) m (P .is-listed) (P .is-sound) hs (P .formed);
+        walk = sound.sought 3 (omega arith) m (P .is-listed) (P .is-sound) (omega arith) hs (P .formed);
         ids = all-imp (Held (m .references)) (λ x. getD x 1 0 < 2 ^ 12) (λ x h. omega (arith, h .0, many)) (postingsIn (m .references) (m .postings)) held;
         high = top-high hs hash-bits;
         below = λ i lt. top-above hs i (rw (sound.hashes-long 3 hs) at lt);

@@ -1,6 +1,6 @@
 -- The postings that query hashes meet: those under a key stand between the first at it and the first above it. Assumes nothing.
 use mathlib.Core.Path.{_≡_, refl, ap, sym, _∙_}
-use mathlib.Core.Bool.{Bool, true, false}
+use mathlib.Core.Bool.{Bool, true, false, _&&_}
 use mathlib.Core.Logic.{_⊎_, inl, inr}
 use mathlib.Core.List.{List, [], _∷_, _++_}
 use Prim.Native.Nat.{ℕ, zero, suc, _+_, _*_, _-_, _/_, _≤_, _<_}
@@ -15,13 +15,21 @@ use Rattle.lists.specs.Lists.{sum}
 use Rattle.lists.specs.Keys.{under}
 use Rattle.lists.specs.Entries.{entries, entryAt, keyOf, keyAt, keysAscend}
 use Rattle.lists.proofs.Tests.{test}
-use Rattle.lists.proofs.Entries.{entries-none, entries-suc, entry-key}
+use Rattle.lists.proofs.Entries.{stride, entries-none, entries-suc, entry-key}
 use Rattle.maps.specs.Sums.{when}
 use Rattle.maps.specs.Entries.{firstAt}
 use Rattle.maps.proofs.Entries.{first-splits, first-le, first-after, first-upto, under-part, part-length}
 use Rattle.seeking.specs.Starts.{Ends, met}
 
 -- ---- those under one key
+
+pub entry-behind : (w j p : ℕ) → 1 ≤ w → w * p ≤ w * j → p ≤ j
+entry-behind w j p w1 h = test (ltb j p) (λ l. absurd (omega (arith, stride w j p (w * p) (ltb-true j p l) (omega arith)))) (ltb-false j p)
+
+-- an entry whose word lies before that of entry p
+pub entry-below : (w j p : ℕ) → w * j < w * p → j < p
+entry-below w j p h = test (ltb j p) (ltb-true j p) (λ n. absurd (omega (arith, mul-le-mul-left w (ltb-false j p n))))
+
 module _ (ps : List ℕ) (w p key : ℕ) (t : keysAscend ps w p ≡ true) where
   -- an entry that stands at the key or behind is under it just where it stands before the first above
   pub under-test : (e : ℕ) → firstAt ps w p key ≤ e → e < p → eqb (keyAt ps w e) key ≡ ltb e (firstAt ps w p (key + 1))
@@ -36,6 +44,18 @@ module _ (ps : List ℕ) (w p key : ℕ) (t : keysAscend ps w p ≡ true) where
           let n : key + 1 ≤ keyAt ps w e = omega (arith, a, eqb-false (keyAt ps w e) key q) in
           q ∙ sym (le-ltb e (firstAt ps w p (key + 1)) (first-upto ps w p (key + 1) e t h n))
 
+  -- the same by the word at which it stands
+  pub under-word : 1 ≤ w → (j e : ℕ) → e ≡ w * j → firstAt ps w p key ≤ j → (ltb e (w * p) && eqb (getD ps e 0) key) ≡ ltb j (firstAt ps w p (key + 1))
+  under-word w1 j e q since = test (ltb j p) inside behind
+    where
+      inside : ltb j p ≡ true → (ltb e (w * p) && eqb (getD ps e 0) key) ≡ ltb j (firstAt ps w p (key + 1))
+      inside l = rw (q, lt-ltb (w * j) (w * p) (omega (arith, stride w j p (w * p) (ltb-true j p l) (omega arith)))) (under-test j since (ltb-true j p l))
+
+      behind : ltb j p ≡ false → (ltb e (w * p) && eqb (getD ps e 0) key) ≡ ltb j (firstAt ps w p (key + 1))
+      behind l =
+          let m = mul-le-mul-left w (ltb-false j p l) in
+          rw (q, le-ltb (w * j) (w * p) m) (sym (le-ltb j (firstAt ps w p (key + 1)) (omega (arith, ltb-false j p l, first-splits ps w p (key + 1) t .within))))
+
   -- the first at the key is under it just where it isn't above
   pub first-test : (x : ℕ) → firstAt ps w p key < p → x ≡ keyAt ps w (firstAt ps w p key) → 1 - when (ltb key x) 1 ≡ when (ltb (firstAt ps w p key) (firstAt ps w p (key + 1))) 1
   first-test x h e = test (ltb key x) above at
@@ -47,9 +67,12 @@ module _ (ps : List ℕ) (w p key : ℕ) (t : keysAscend ps w p ≡ true) where
       at q = rw (q, lt-ltb (firstAt ps w p key) (firstAt ps w p (key + 1)) (first-after ps w p (key + 1) (firstAt ps w p key) t h (omega (arith, ltb-false key x q))))
 
   -- the walk begins before the first above, or there
-  pub first-reach : (a r : ℕ) → a ≡ firstAt ps w p key → r ≡ when (ltb a (firstAt ps w p (key + 1))) 1 → (a + r ≤ firstAt ps w p (key + 1)) × (r ≤ 1)
-  first-reach a r ea er = test (ltb a (firstAt ps w p (key + 1))) before there
+  pub first-reach : (r : ℕ) → r ≡ when (ltb (firstAt ps w p key) (firstAt ps w p (key + 1))) 1 → (firstAt ps w p key + r ≤ firstAt ps w p (key + 1)) × (r ≤ 1)
+  first-reach r er = test (ltb a (firstAt ps w p (key + 1))) before there
     where
+      a : ℕ
+      a = firstAt ps w p key
+
       before : ltb a (firstAt ps w p (key + 1)) ≡ true → (a + r ≤ firstAt ps w p (key + 1)) × (r ≤ 1)
       before q =
           let e : r ≡ 1 = er ∙ ap (λ (b : Bool). when b 1) q in
@@ -96,9 +119,9 @@ module _ (es : List (List ℕ)) where
     met-longer h1 i m l = let e : i + (m - i) ≡ m = omega arith in rw e at (longer h1 i (m - i))
 
 -- ---- their ends
-pub ends-more : (ps : List ℕ) (w p : ℕ) (hs : List ℕ) (h i : ℕ) (ends : List ℕ) (x : ℕ) → Ends ps w p hs h i ends → i < length ends → x ≡ firstAt ps w p (keyAt hs h i + 1) → Ends ps w p hs h (i + 1) (set ends i x)
+pub ends-more : (ps : List ℕ) (w p : ℕ) (hs : List ℕ) (h i : ℕ) (ends : List ℕ) (x : ℕ) → Ends ps w p hs h i ends → i < length ends → x ≡ w * firstAt ps w p (keyAt hs h i + 1) → Ends ps w p hs h (i + 1) (set ends i x)
 ends-more ps w p hs h i ends x E l e = record { stops = λ j k. at j (eq-or-lt-of-le (omega arith)) }
   where
-    at : (j : ℕ) → (j ≡ i) ⊎ (j < i) → getD (set ends i x) j 0 ≡ firstAt ps w p (keyAt hs h j + 1)
+    at : (j : ℕ) → (j ≡ i) ⊎ (j < i) → getD (set ends i x) j 0 ≡ w * firstAt ps w p (keyAt hs h j + 1)
     at j (inl q) = rw q (getD-set-same ends i x 0 l ∙ e)
     at j (inr k) = getD-set-other ends i j x 0 (λ q. omega arith) ∙ E .stops j k

@@ -1,9 +1,9 @@
 -- The votes of the first query hashes, how many they are, and the word of a vote put behind others. Assumes nothing.
-use mathlib.Core.Path.{_≡_, refl, sym, ap, ap₂, _∙_}
+use mathlib.Core.Path.{_≡_, refl, sym, subst, ap, ap₂, _∙_}
 use mathlib.Core.Logic.{_⊎_, inl, inr}
 use mathlib.Core.Bool.{Bool, true, false, cond, _&&_}
 use mathlib.Core.List.{List, [], _∷_, _++_, append-nil}
-use Prim.Native.Nat.{ℕ, suc, _+_, _*_, _-_, _≤_, _<_}
+use Prim.Native.Nat.{ℕ, suc, _+_, _*_, _-_, _/_, _≤_, _<_}
 use native.Mathlib.Nat.{eq-or-lt-of-le}
 use native.Mathlib.Omega.{arith}
 use lib.IntN.{ℤ, pos}
@@ -32,12 +32,17 @@ module _ (part : List ℕ) (shift q : ℕ) where
   pub word-is : (j : ℕ) → voteWord shift q (entryAt 3 j part) ≡ packed (getD part (3 * j + 1) 0) (getD part (3 * j + 2) 0 + shift) q
   word-is j = rw (entry-word 3 j part 1 (omega arith), entry-word 3 j part 2 (omega arith)) refl
 
+  -- by the word at which the posting stands
+  pub word-at : (k : ℕ) → k ≡ 3 * (k / 3) → packed (getD part (k + 1) 0) (getD part (k + 2) 0 + shift) q ≡ voteWord shift q (entryAt 3 (k / 3) part)
+  word-at k e = ap (λ (n : ℕ). packed (getD part (n + 1) 0) (getD part (n + 2) 0 + shift) q) e ∙ sym (word-is (k / 3))
+
   pub put-word : (s₀ s : List ℤ) (at j : ℕ) → take (at + j) s ≡ take at s₀ ++ wordsOn shift q (entries 3 j part) → at + j < length s
-      → take (at + (j + 1)) (set s (at + j) (pos (voteWord shift q (entryAt 3 j part)))) ≡ take at s₀ ++ wordsOn shift q (entries 3 (j + 1) part)
+      → take (at + (j + 1)) (set s (at + j) (pos (packed (getD part (3 * j + 1) 0) (getD part (3 * j + 2) 0 + shift) q))) ≡ take at s₀ ++ wordsOn shift q (entries 3 (j + 1) part)
   put-word s₀ s at j e h =
       let word = pos (voteWord shift q (entryAt 3 j part)) in
       let m : at + (j + 1) ≡ suc (at + j) = omega arith in
-      rw m (put-more (wordWith shift q) 3 part (take at s₀) (take (at + j) s) (take (suc (at + j)) (set s (at + j) word)) j e (take-suc-set s (at + j) word h))
+      subst (λ (x : ℕ). take (at + (j + 1)) (set s (at + j) (pos x)) ≡ take at s₀ ++ wordsOn shift q (entries 3 (j + 1) part)) (word-is j)
+      (rw m (put-more (wordWith shift q) 3 part (take at s₀) (take (at + j) s) (take (suc (at + j)) (set s (at + j) word)) j e (take-suc-set s (at + j) word h)))
 
 -- ---- a word written where a test passes; behind the last one nothing is written
 
@@ -66,7 +71,7 @@ module _ (ps : List ℕ) (p key a e : ℕ) (fits : 3 * p ≤ length ps) (t : key
 
   -- where there is one at most, its word is written in any case
   pub put-first : (shift q : ℕ) (s s′ : List ℤ) (at : ℕ) → e - a ≤ 1 → at + (e - a) ≤ length s
-      → s′ ≡ cond (ltb a p) (set s at (pos (voteWord shift q (entryAt 3 a ps)))) s
+      → s′ ≡ cond (ltb (3 * a) (3 * p)) (set s at (pos (voteWord shift q (entryAt 3 a ps)))) s
       → take (at + (e - a)) s′ ≡ take at s ++ wordsOn shift q (under keyOf key (entries 3 p ps))
   unfolding entries wordsBy flat
   put-first shift q s s′ at few room es = go (eq-or-lt-of-le few)
@@ -81,12 +86,12 @@ module _ (ps : List ℕ) (p key a e : ℕ) (fits : 3 * p ≤ length ps) (t : key
       go : (e - a ≡ 1) ⊎ (e - a < 1) → take (at + (e - a)) s′ ≡ take at s ++ wordsOn shift q (under keyOf key (entries 3 p ps))
       go (inl k) =
           let m : at + (e - a) ≡ suc at = omega arith in
-          let lt = lt-ltb a p (omega (arith, first-splits ps 3 p (key + 1) t .within)) in
+          let lt = lt-ltb (3 * a) (3 * p) (omega (arith, first-splits ps 3 p (key + 1) t .within)) in
           rw (es, lt, m, under-entries, k) (take-suc-set s at word (omega arith))
       go (inr l) =
           let k : e - a ≡ 0 = omega arith in
           let m : at + (e - a) ≡ at = omega arith in
-          rw (m, under-entries, k, es) (before (ltb a p) ∙ sym (append-nil (take at s)))
+          rw (m, under-entries, k, es) (before (ltb (3 * a) (3 * p)) ∙ sym (append-nil (take at s)))
 
 -- ---- each posting gives one vote
 

@@ -2,23 +2,23 @@
 ghost use mathlib.Core.Path.{_≡_};
 ghost use mathlib.Core.Bool.{true, cond};
 ghost use mathlib.Core.List.{_++_};
-ghost use Prim.Native.Nat.{_+_, _*_, _≤_, _<_, _^_};
+ghost use Prim.Native.Nat.{_+_, _*_, _/_, _≤_, _<_, _^_};
 ghost use lib.IntN.{pos};
 ghost use lib.Dec.{ltb};
 ghost use lib.ListN.{length, getD, take, set};
 ghost use Rattle.lists.specs.Keys.{under};
 ghost use Rattle.lists.specs.Entries.{entries, entryAt, keyOf, keysAscend};
 ghost use Rattle.maps.specs.Entries.{firstAt};
+ghost use Rattle.bins.specs.Votes.{packed};
 ghost use Rattle.seeking.specs.Starts.{Starts, Ends, met};
 ghost use Rattle.candidates.specs.Gathered.{Ids};
 ghost use Rattle.voting.specs.Gathered.{voteWord, words, wordsOn, Packable};
 
-// The vote of the query hash at position q with posting j goes to word `at`.
-fn put_posting(s: &mut [i64], at: usize, posts: &[u32], j: usize, shift: u64, q: u64)
-    requires { ⌜ (at < length (now s)) × (3 * j + 2 < length (now posts)) × (getD (now posts) (3 * j + 1) 0 < 2 ^ 12) × (shift < 2 ^ 32) × (q < 2 ^ 11) ⌝ }
-    ensures { λ _. ⌜ now (s .exit) ≡ set (now (s .entry)) at (pos (voteWord shift q (entryAt 3 j (now (posts .entry))))) ⌝ }
+// The vote of the query hash at position q with the posting at word k goes to word `at`.
+fn put_posting(s: &mut [i64], at: usize, posts: &[u32], k: usize, shift: u64, q: u64)
+    requires { ⌜ (at < length (now s)) × (k + 2 < length (now posts)) × (getD (now posts) (k + 1) 0 < 2 ^ 12) × (shift < 2 ^ 32) × (q < 2 ^ 11) ⌝ }
+    ensures { λ _. ⌜ now (s .exit) ≡ set (now (s .entry)) at (pos (packed (getD (now (posts .entry)) (k + 1) 0) (getD (now (posts .entry)) (k + 2) 0 + shift) q)) ⌝ }
 {
-    let k = 3 * j;
     let id = maps::wide(posts[k + 1]);
     let t = maps::wide(posts[k + 2]);
     maps::put_word(s, at, bins::pack(id, t + shift, q));
@@ -31,22 +31,22 @@ fn gather_part(s: &mut [i64], at: usize, part: &[u32], n: usize, shift: u64, q: 
 {
     let mut j = 0;
     while j < n {
-        put_posting(s, at + j, part, j, shift, q);
+        put_posting(s, at + j, part, 3 * j, shift, q);
         j += 1;
     }
 }
 
-// The vote with posting a of p goes to word `at`, where there are such a posting and such a word.
+// The vote with the posting at word a, of p postings, goes to word `at`, where there are such a posting and such a word.
 fn gather_first(s: &mut [i64], at: usize, posts: &[u32], p: usize, a: usize, shift: u64, q: u64)
-    requires { ⌜ (3 * p ≤ length (now posts)) × Ids (entries 3 p (now posts)) × (shift < 2 ^ 32) × (q < 2 ^ 11) ⌝ }
-    ensures { λ _. ⌜ now (s .exit) ≡ cond (ltb a p) (set (now (s .entry)) at (pos (voteWord shift q (entryAt 3 a (now (posts .entry)))))) (now (s .entry)) ⌝ }
+    requires { ⌜ (3 * p ≤ length (now posts)) × Ids (entries 3 p (now posts)) × (a ≡ 3 * (a / 3)) × (shift < 2 ^ 32) × (q < 2 ^ 11) ⌝ }
+    ensures { λ _. ⌜ now (s .exit) ≡ cond (ltb a (3 * p)) (set (now (s .entry)) at (pos (voteWord shift q (entryAt 3 (a / 3) (now (posts .entry)))))) (now (s .entry)) ⌝ }
 {
-    if (a < p) & (at < s.len()) {
+    if (a < 3 * p) & (at < s.len()) {
         put_posting(s, at, posts, a, shift, q);
     }
 }
 
-// The votes with all of p postings that stand under a key, from `start` to before `end`. Yields where the votes end. One vote at most is
+// The votes with all of p postings that stand under a key, from word `start` to before word `end`. Yields where the votes end. One vote at most is
 // written without asking whether it is there, since that can't be predicted: where it isn't, its word is not counted.
 fn gather_key(
     s: &mut [i64],
@@ -59,12 +59,12 @@ fn gather_key(
     shift: u64,
     q: u64,
 ) -> usize
-    requires { ⌜ (3 * p ≤ length (now posts)) × (keysAscend (now posts) 3 p ≡ true) × (start ≡ firstAt (now posts) 3 p key) × (end ≡ firstAt (now posts) 3 p (key + 1))
+    requires { ⌜ (3 * p ≤ length (now posts)) × (keysAscend (now posts) 3 p ≡ true) × (start ≡ 3 * firstAt (now posts) 3 p key) × (end ≡ 3 * firstAt (now posts) 3 p (key + 1))
         × Ids (entries 3 p (now posts)) × (at + length (under keyOf key (entries 3 p (now posts))) ≤ length (now s)) × (shift < 2 ^ 32) × (q < 2 ^ 11) ⌝ }
     ensures { λ r. ⌜ (r ≡ at + length (under keyOf key (entries 3 p (now (posts .entry)))))
         × (take r (now (s .exit)) ≡ take at (now (s .entry)) ++ wordsOn shift q (under keyOf key (entries 3 p (now (posts .entry))))) ⌝ }
 {
-    let n = (end - start) as usize;
+    let n = ((end - start) / 3) as usize;
     if n <= 1 {
         gather_first(s, at, posts, p, start as usize, shift, q);
         return at + n;

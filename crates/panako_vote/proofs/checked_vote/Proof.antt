@@ -1,11 +1,11 @@
 -- `panako_vote::checked_vote` meets its contract: the steps of the definition, each by a call. Assumes nothing.
 use borrow.Author.Needs.{needs}
-use mathlib.Core.Path.{_≡_, sym, ap, _∙_}
+use mathlib.Core.Path.{_≡_, sym, ap, _∙_, subst}
 use mathlib.Core.Bool.{Bool, true, false}
 use Prim.Native.Nat.{ℕ}
 use mir.Syntax.{w64}
 use mir.ValLaws.{toZ-ofZ}
-use Rattle.panako_vote.specs.Settings.{normalised, withinLimits}
+use Rattle.panako_vote.specs.Settings.{normalised, withinLimits, Accepted}
 use Rattle.panako_vote.specs.Grids.{gridOf}
 use Rattle.panako_vote.specs.Votes.{voteOn, answered, checkedVote}
 use Rattle.panako_vote.specs.declared.PanakoMatchConfig.{PanakoMatchConfig}
@@ -13,6 +13,7 @@ use Rattle.panako_vote.specs.declared.ScaleGrid.{ScaleGrid}
 use Rattle.panako_vote.specs.declared.Vote.{Vote}
 use Rattle.panako_vote.specs.declared.Vote.the-variants.{Nothing}
 use Rattle.panako_vote.specs.declared.CheckedVote.the-variants.{Refused}
+use Rattle.panako_vote.proofs.Limits.{accepted as within-accepted}
 use Rattle.panako_vote.proofs.checked_vote.Statement.{statement}
 use Rattle.panako_vote.proofs.checked_vote.Tie as tie
 
@@ -25,8 +26,14 @@ within-limits-requires c κs = search needs
 scale-grid-requires : tie.Need-scale-grid-requires
 scale-grid-requires c κs = search needs
 
+within : (cfg n : PanakoMatchConfig) (w : Bool) → n ≡ normalised cfg → w ≡ withinLimits n → w ≡ true → Accepted n
+within cfg n w en ew h = subst Accepted (sym en) (within-accepted cfg (sym (ap withinLimits en) ∙ sym ew ∙ h))
+
 pair-vote-requires : tie.Need-pair-vote-requires
-pair-vote-requires c κs = search needs
+pair-vote-requires c κs =
+    let t = c .before in
+    let n = t .before .before in
+    c .scale-grid .ensures .1 (within (n .before .args .cfg) (n .normalize-config .result) (t .before .within-limits .result) (n .normalize-config .ensures) (t .before .within-limits .ensures) (t .if1 .taken))
 
 enum-told : tie.Need-enum-told
 enum-told c = search needs

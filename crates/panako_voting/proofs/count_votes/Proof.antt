@@ -2,7 +2,7 @@
 -- inner one's those with the first j postings of a part come to them, and neither passes the room. The ends of the first i are known.
 -- Assumes nothing.
 use mathlib.Core.Path.{_≡_, refl, sym, ap}
-use Prim.Native.Nat.{_+_, _-_, _/_, _^_, _≤_, _<_}
+use Prim.Native.Nat.{_+_, _*_, _-_, _/_, _^_, _≤_, _<_}
 use native.Mathlib.Omega.{arith}
 use lib.ListN.{length, getD, length-set}
 use Rattle.lists.specs.Entries.{keyAt}
@@ -74,7 +74,7 @@ part-at-requires : tie.Need-part-at-requires Inv-loop μ-loop Inv-hashes μ-hash
 part-at-requires c κs =
     let l = c .before .before .before .before .before in
     let s = start l in
-    (omega arith, s .pre .0 .postings, s .pre .0 .ascend, s .pre .1 .begins (l .hashes .i) (omega arith))
+    (omega arith, s .pre .0 .postings, s .pre .0 .ascend, omega (arith, s .pre .1 .begins (l .hashes .i) (omega arith)))
 
 loop-holds : tie.Need-loop-holds Inv-loop μ-loop Inv-hashes μ-hashes
 loop-holds c =
@@ -116,23 +116,28 @@ module _ (c : tie.After-loop Inv-loop μ-loop Inv-hashes μ-hashes) where
   abbrev s : tie.Start Inv-loop μ-loop Inv-hashes μ-hashes
   s = start turn
 
-  ended : getD (s .args .starts .now) (turn .hashes .i) 0 + length (c .before .before .part-at .result .now) / 5 ≡ firstAt (s .args .posts .now) 5 (s .args .p) (keyAt (s .args .hashes .now) 4 (turn .hashes .i) + 1)
+  ended : getD (s .args .starts .now) (turn .hashes .i) 0 + 5 * (length (c .before .before .part-at .result .now) / 5) ≡ 5 * firstAt (s .args .posts .now) 5 (s .args .p) (keyAt (s .args .hashes .now) 4 (turn .hashes .i) + 1)
   ended =
       let a = s .args in
       let l = c .before .loop in
-      counting-end (a .g) (a .posts .now) (a .p) (a .hashes .now) (s .pre .0 .postings) (a .room) (turn .hashes .i) _ _ _ _ (l .v) (l .j) (l .inv) (s .pre .0 .ascend) _ (s .pre .1 .begins (turn .hashes .i) (c .before .before .before .before .before .before .before .hashes-test .taken))
+      let begins = s .pre .1 .begins (turn .hashes .i) (c .before .before .before .before .before .before .before .hashes-test .taken) in
+      let end = counting-end (a .g) (a .posts .now) (a .p) (a .hashes .now) (s .pre .0 .postings) (a .room) (turn .hashes .i) _ _ _ _ (l .v) (l .j) (l .inv) (s .pre .0 .ascend) _ refl in
+      omega (arith, begins, end)
 
-  small : getD (s .args .starts .now) (turn .hashes .i) 0 + length (c .before .before .part-at .result .now) / 5 < 2 ^ 32
+  small : getD (s .args .starts .now) (turn .hashes .i) 0 + 5 * (length (c .before .before .part-at .result .now) / 5) < 2 ^ 32
   small = omega (arith, ended, first-splits (s .args .posts .now) 5 (s .args .p) (keyAt (s .args .hashes .now) 4 (turn .hashes .i) + 1) (s .pre .0 .ascend) .within, s .pre .0 .counted)
 
 cast-ends : tie.Need-cast-ends Inv-loop μ-loop Inv-hashes μ-hashes
 cast-ends c = record { fits = omega (arith, small c) }
 
+mul-ends : tie.Need-mul-ends Inv-loop μ-loop Inv-hashes μ-hashes
+mul-ends c = record { fits = omega (arith, small c) }
+
 add-ends : tie.Need-add-ends Inv-loop μ-loop Inv-hashes μ-hashes
 add-ends c = omega (arith, small c)
 
-mul-ends : tie.Need-mul-ends Inv-loop μ-loop Inv-hashes μ-hashes
-mul-ends c = search needs
+mul-ends-2 : tie.Need-mul-ends-2 Inv-loop μ-loop Inv-hashes μ-hashes
+mul-ends-2 c = search needs
 
 slice-write-ends : tie.Need-slice-write-ends Inv-loop μ-loop Inv-hashes μ-hashes
 slice-write-ends c = let o = outer (c .before .before) in omega (arith, o .hashes .inv .4, start o .pre .3)
@@ -202,8 +207,9 @@ count-votes-spec =
     loop-less
     loop-again
     cast-ends
-    add-ends
     mul-ends
+    add-ends
+    mul-ends-2
     slice-write-ends
     add-i
     hashes-less

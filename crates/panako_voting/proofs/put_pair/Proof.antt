@@ -58,7 +58,7 @@ put-vote-requires c κs =
     let told = c .before .before .bin .given in
     let back = toZ-ofZ w64 (told .0 .1 .0) (record { sfits = c .before .known-told .given .1 .0 .1 }) in
     let e = sym (c .before .before .before .before .pair-vote .ensures .0) ∙ told .1 in
-    let b = bits-of (o .args .g .«last_bin») (c .before .before .before .before .pair-vote .result) (told .0 .0) (told .0 .1 .0) (told .1) (o .pre .3 .last) (c .before .before .before .before .pair-vote .ensures .1 (o .pre .3)) in
+    let b = bits-of (o .args .g .«last_bin») (c .before .before .before .before .pair-vote .result) (told .0 .0) (told .0 .1 .0) (told .1) (o .pre .3 .last) (c .before .before .before .before .pair-vote .ensures .1) in
     rw back (one-room (o .args .g) (o .args .qa) (o .args .qc) (o .args .part .now) (o .args .j) (o .args .at) (length (o .args .s .now)) (told .0 .0) (told .0 .1 .0) e (o .pre .0), omega (arith, c .before .before .before .before .before .before .before .wide .ensures .0, o .pre .2), b .0, b .1)
 
 add-result : tie.Need-add-result

@@ -1,32 +1,34 @@
 -- `seeking::seek` meets its contract: at the loop's test each hash has a window of `len` postings. Assumes nothing.
 use mathlib.Core.Path.{_≡_, refl, _∙_}
+use Prim.Native.Nat.{_≤_}
 use native.Mathlib.Omega.{arith}
 use lib.ListN.{length}
 use Rattle.seeking.specs.Starts.{Windows}
+use Rattle.seeking.proofs.Steps.{few-entries}
 use Rattle.seeking.proofs.Levels.{windows-all, windows-none}
 use Rattle.seeking.proofs.seek.Statement.{statement}
 use Rattle.seeking.proofs.seek.Tie as tie
 
 abbrev Inv-loop : tie.InvT-loop
-Inv-loop starts₀ posts w p hashes h m len₀ starts len = Windows posts w p hashes h m len starts × (length starts ≡ length starts₀)
+Inv-loop starts₀ posts w p hashes h m len₀ starts len = Windows posts w p hashes h m len starts × (length starts ≡ length starts₀) × (len ≤ p)
 
 abbrev μ-loop : tie.MeasureT-loop
 μ-loop starts₀ posts w p hashes h m len₀ starts len = len
 
 cast-len : tie.Need-cast-len Inv-loop μ-loop
-cast-len c = record { fits = c .before .before .before .pre .0 .counted }
+cast-len c = let o = c .before .before .before in record { fits = few-entries (o .args .posts .now) (o .args .w) (o .args .p) (o .args .hashes .now) (o .args .h) (o .args .m) (o .pre .0) }
 
 loop-holds : tie.Need-loop-holds Inv-loop μ-loop
-loop-holds c = let o = c .before .before .before in (windows-all (o .args .posts .now) (o .args .w) (o .args .p) (o .args .hashes .now) (o .args .h) (o .args .m) _ (o .pre .0) (o .pre .1), refl)
+loop-holds c = let o = c .before .before .before in (windows-all (o .args .posts .now) (o .args .w) (o .args .p) (o .args .hashes .now) (o .args .h) (o .args .m) _ (o .pre .0) (o .pre .1), refl, omega arith)
 
 narrow-requires : tie.Need-narrow-requires Inv-loop μ-loop
-narrow-requires c κs = (c .before .before .before .before .before .before .pre .0, c .before .loop-test .taken, c .before .before .loop .inv .0)
+narrow-requires c κs = (c .before .before .before .before .before .before .pre .0, c .before .loop-test .taken, c .before .before .loop .inv .2, c .before .before .loop .inv .0)
 
 loop-less : tie.Need-loop-less Inv-loop μ-loop
 loop-less c = omega arith
 
 loop-again : tie.Need-loop-again Inv-loop μ-loop
-loop-again c = (c .before .before .narrow .ensures, c .before .before .narrow .kept .0 ∙ c .before .before .before .before .before .loop .inv .1)
+loop-again c = let l = c .before .before .before .before .before .loop in (c .before .before .narrow .ensures, c .before .before .narrow .kept .0 ∙ l .inv .1, omega (arith, l .inv .2))
 
 same-length : tie.Need-same-length Inv-loop μ-loop
 same-length c = c .before .loop .inv .1

@@ -1,14 +1,19 @@
 -- `voting::gather_key` meets its contract: the entries of the part are those under the key. Assumes nothing.
-use mathlib.Core.Path.{_≡_}
-use mathlib.Core.List.{List}
-use Prim.Native.Nat.{ℕ, _-_}
+use mathlib.Core.Path.{_≡_, refl, sym, subst, ap, ap₂, _∙_}
+use mathlib.Core.Bool.{cond}
+use mathlib.Core.List.{List, _++_}
+use Prim.Native.Nat.{ℕ, _+_, _*_, _-_, _/_, _≤_}
 use native.Mathlib.Omega.{arith}
-use lib.ListN.{length}
+use lib.IntN.{pos}
+use lib.Dec.{ltb}
+use lib.ListN.{length, take, set}
 use Rattle.lists.specs.Lists.{flat}
 use Rattle.lists.specs.Keys.{under}
-use Rattle.lists.specs.Entries.{entries, keyOf}
+use Rattle.lists.specs.Entries.{entries, entryAt, keyOf}
+use Rattle.maps.specs.Entries.{firstAt}
 use Rattle.maps.proofs.Entries.{first-le, part-length}
 use Rattle.candidates.proofs.Walks.{part-ids}
+use Rattle.voting.specs.Gathered.{voteWord, wordsOn}
 use Rattle.voting.proofs.Walks.{under-long, part-is, put-first}
 use borrow.Author.Needs.{needs}
 use Rattle.voting.proofs.gather_key.Statement.{statement}
@@ -18,11 +23,20 @@ module _ (s : tie.Start) where
   abbrev found : List (List ℕ)
   found = under keyOf (s .args .key) (entries 3 (s .args .p) (s .args .posts .now))
 
-  many : length found ≡ s .args .end - s .args .start
-  many = under-long (s .args .posts .now) (s .args .p) (s .args .key) (s .args .start) (s .args .end) (s .pre .0) (s .pre .1) (s .pre .2) (s .pre .3)
+  abbrev first : ℕ
+  first = firstAt (s .args .posts .now) 3 (s .args .p) (s .args .key)
 
-  part : entries 3 (s .args .end - s .args .start) (flat found) ≡ found
-  part = part-is (s .args .posts .now) (s .args .p) (s .args .key) (s .args .start) (s .args .end) (s .pre .0) (s .pre .1) (s .pre .2) (s .pre .3)
+  abbrev above : ℕ
+  above = firstAt (s .args .posts .now) 3 (s .args .p) (s .args .key + 1)
+
+  between : (s .args .end - s .args .start) / 3 ≡ above - first
+  between = omega (arith, s .pre .2, s .pre .3)
+
+  many : length found ≡ (s .args .end - s .args .start) / 3
+  many = under-long (s .args .posts .now) (s .args .p) (s .args .key) first above (s .pre .0) (s .pre .1) refl refl ∙ sym between
+
+  part : entries 3 ((s .args .end - s .args .start) / 3) (flat found) ≡ found
+  part = ap (λ (n : ℕ). entries 3 n (flat found)) between ∙ part-is (s .args .posts .now) (s .args .p) (s .args .key) first above (s .pre .0) (s .pre .1) refl refl
 
 sub-n : tie.Need-sub-n
 sub-n c = let s = c .before in omega (arith, s .pre .2, s .pre .3, first-le (s .args .posts .now) 3 (s .args .p) (s .args .key) (s .pre .1))
@@ -31,7 +45,7 @@ cast-n : tie.Need-cast-n
 cast-n c = search needs
 
 gather-first-requires : tie.Need-gather-first-requires
-gather-first-requires c κs = search needs
+gather-first-requires c κs = let s = c .before .before .before in (s .pre .0, s .pre .4, omega (arith, s .pre .2), s .pre .6, s .pre .7)
 
 add-result : tie.Need-add-result
 add-result c = search needs
@@ -43,7 +57,14 @@ returns : tie.Need-returns
 returns c =
     let s = c .before .before .before .before .before in
     let a = s .args in
-    (omega (arith, many s), put-first (a .posts .now) (a .p) (a .key) (a .start) (a .end) (s .pre .0) (s .pre .1) (s .pre .2) (s .pre .3) (a .shift) (a .q) (a .s .now) (c .before .gather-first .last .0) (a .at) (c .before .before .before .if1 .taken) (omega (arith, many s, s .pre .5)) (c .before .gather-first .ensures))
+    let begin : a .start / 3 ≡ first s = omega (arith, s .pre .2) in
+    let written = c .before .gather-first .ensures
+    ∙ ap₂ (λ (k j : ℕ). cond (ltb k (3 * a .p)) (set (a .s .now) (a .at) (pos (voteWord (a .shift) (a .q) (entryAt 3 j (a .posts .now))))) (a .s .now)) (s .pre .2) begin in
+    let few : above s - first s ≤ 1 = omega (arith, between s, c .before .before .before .if1 .taken) in (
+      omega (arith, many s),
+      subst (λ (n : ℕ). take (a .at + n) (c .before .gather-first .last .0) ≡ take (a .at) (a .s .now) ++ wordsOn (a .shift) (a .q) (found s)) (sym (between s))
+          (put-first (a .posts .now) (a .p) (a .key) (first s) (above s) (s .pre .0) (s .pre .1) refl refl (a .shift) (a .q) (a .s .now) (c .before .gather-first .last .0) (a .at) few (omega (arith, many s, between s, s .pre .5)) written),
+    )
 
 part-of-requires : tie.Need-part-of-requires
 part-of-requires c κs = search needs

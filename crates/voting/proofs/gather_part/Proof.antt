@@ -27,6 +27,9 @@ loop-holds c =
 add-put-posting : tie.Need-add-put-posting Inv-loop μ-loop
 add-put-posting c = search needs
 
+mul-put-posting : tie.Need-mul-put-posting Inv-loop μ-loop
+mul-put-posting c = search needs
+
 put-posting-requires : tie.Need-put-posting-requires Inv-loop μ-loop
 put-posting-requires c κs =
     let s = c .before .before .before .before in
@@ -63,6 +66,7 @@ gather-part-spec =
     μ-loop
     loop-holds
     add-put-posting
+    mul-put-posting
     put-posting-requires
     add-j
     loop-less

@@ -1,11 +1,7 @@
 -- `voting::put_posting` meets its contract. Assumes nothing.
-use Rattle.voting.proofs.Walks.{word-is}
 use borrow.Author.Needs.{needs}
 use Rattle.voting.proofs.put_posting.Statement.{statement}
 use Rattle.voting.proofs.put_posting.Tie as tie
-
-mul-k : tie.Need-mul-k
-mul-k c = search needs
 
 add-wide : tie.Need-add-wide
 add-wide c = search needs
@@ -44,15 +40,12 @@ same-length : tie.Need-same-length
 same-length c = search needs
 
 returns : tie.Need-returns
-returns c =
-    let a = c .before .before .before .before .before .before .before .before .before .args in
-    rw (c .before .put-word .ensures, c .before .before .pack .ensures .0, c .before .before .before .before .wide2 .ensures .0, c .before .before .before .before .before .before .wide .ensures .0, word-is (a .posts .now) (a .shift) (a .q) (a .j))
+returns c = rw (c .before .put-word .ensures, c .before .before .pack .ensures .0, c .before .before .before .before .wide2 .ensures .0, c .before .before .before .before .before .before .wide .ensures .0)
 
 pub put-posting-spec : {M : Type 1} → statement M
 put-posting-spec =
     tie.close
     (tie.spec
-    mul-k
     add-wide
     mul-wide
     shared-slice-read-wide
