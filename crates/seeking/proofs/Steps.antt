@@ -3,9 +3,10 @@ use mathlib.Core.Path.{_≡_, refl, sym, subst, ap, ap₂, _∙_}
 use mathlib.Core.Bool.{Bool, true, false}
 use mathlib.Core.List.{List}
 use Prim.Native.Nat.{ℕ, zero, suc, _+_, _*_, _-_, _/_, _%_, _^_, _≤_, _<_}
-use native.Mathlib.Nat.{mul-zero, mul-suc, mul-add, mul-le-mul-left, mul-le-mul-right}
+use native.Mathlib.Nat.{add-comm, mul-zero, mul-suc, mul-add, mul-le-mul-left, mul-le-mul-right}
 use native.Mathlib.Omega.{arith}
-use lib.ListN.{getD}
+use lib.ListN.{length, getD, drop, length-drop}
+use lib.Seq.{getD-drop}
 use lib.Bits.{bitAnd, and-comm, and-mask, and-zero-l}
 use lib.Dec.{ltb}
 use borrow.Author.Tests.{ltb-true, ltb-false}
@@ -87,25 +88,31 @@ module _ (ps : List ℕ) (w p key len word : ℕ) (W : Placed ps w p key len wor
   abbrev half : ℕ
   half = len - len / 2
 
-  abbrev tested : ℕ
-  tested = word + (w * half - w)
-
   -- the last posting of its larger half
-  tested-is : tested ≡ w * (W .entry + (half - 1))
-  tested-is = ap₂ (λ (x y : ℕ). x + y) (W .stands) (times-less w half) ∙ sym (mul-add w (W .entry) (half - 1))
+  last-is : getD (drop (w * half - w) ps) word 0 ≡ keyAt ps w (W .entry + (half - 1))
+  last-is =
+      let e : (w * half - w) + word ≡ w * (W .entry + (half - 1)) =
+      ap₂ (λ (x y : ℕ). x + y) (times-less w half) (W .stands) ∙ add-comm (w * (half - 1)) (w * W .entry) ∙ sym (mul-add w (W .entry) (half - 1)) in
+      getD-drop (w * half - w) ps word 0 ∙ ap (λ (k : ℕ). getD ps k 0) e
 
-  pub halved-words : keysAscend ps w p ≡ true → (r : ℕ) → r ≡ word + when (ltb (getD ps tested 0) key) (w * half) → Placed ps w p key (len / 2) r
+  pub halved-words : keysAscend ps w p ≡ true → (r : ℕ) → r ≡ word + when (ltb (getD (drop (w * half - w) ps) word 0) key) (w * half) → Placed ps w p key (len / 2) r
   halved-words t r e =
       let b = ltb (keyAt ps w (W .entry + (half - 1))) key in
       record {
         entry = W .entry + when b half;
-        stands = e ∙ ap (λ (k : ℕ). word + when (ltb (getD ps k 0) key) (w * half)) tested-is ∙ ap₂ (λ (x y : ℕ). x + y) (W .stands) (when-times b w half) ∙ sym (mul-add w (W .entry) (when b half));
+        stands = e ∙ ap (λ (k : ℕ). word + when (ltb k key) (w * half)) last-is ∙ ap₂ (λ (x y : ℕ). x + y) (W .stands) (when-times b w half) ∙ sym (mul-add w (W .entry) (when b half));
         window = halved ps w p key (W .entry) _ t len (W .window) refl;
       }
 
   -- its words are there
-  pub half-there : (next n : ℕ) → next ≤ len → w * p ≤ n → word + w * next ≤ n
-  half-there next n l h = let m : w * (W .entry + next) ≤ w * p = mul-le-mul-left w (omega (arith, W .window .within)) in omega (arith, W .stands, mul-add w (W .entry) next)
+  there : (next n : ℕ) → next ≤ len → w * p ≤ n → word + w * next ≤ n
+  there next n l h = let m : w * (W .entry + next) ≤ w * p = mul-le-mul-left w (omega (arith, W .window .within)) in omega (arith, W .stands, mul-add w (W .entry) next)
+
+  pub half-few : w * p < 2 ^ 32 → word + w * half < 2 ^ 32
+  half-few few = omega (arith, there half (w * p) (omega arith) (omega arith))
+
+  pub half-there : 1 ≤ w → w * p ≤ length ps → 0 < w * half → word < length (drop (w * half - w) ps)
+  half-there w1 h some = rw length-drop (omega (arith, times-some w half some, there half (length ps) (omega arith) h))
 
 -- ---- how large numbers get
 module _ (ps : List ℕ) (w p : ℕ) (hs : List ℕ) (h m : ℕ) (S : Sought ps w p hs h m) where

@@ -3,7 +3,7 @@ ghost use mathlib.Core.Path.{_≡_};
 ghost use mathlib.Core.Bool.{true, _&&_};
 ghost use Prim.Native.Nat.{_+_, _*_, _-_, _/_, _^_, _≤_, _<_, min};
 ghost use lib.Dec.{eqb, ltb};
-ghost use lib.ListN.{length, getD};
+ghost use lib.ListN.{length, getD, drop};
 ghost use Rattle.lists.specs.Lists.{flat};
 ghost use Rattle.lists.specs.Keys.{under};
 ghost use Rattle.lists.specs.Entries.{entries, keyOf, keysAscend};
@@ -20,17 +20,29 @@ fn step(x: u32, key: u32, half: u32) -> u32
     (d >> 32) as u32 & half
 }
 
+// The postings from the last one of the first `by` words on: what stands there at word `at` is the last posting of a window's first `by` words, where
+// the window begins at word `at`. All postings, where `by` is 0.
+fn tail(posts: &[u32], w: u32, by: u32) -> &[u32]
+    requires { ⌜ (0 < by → w ≤ by) × (by ≤ length (now posts)) ⌝ }
+    ensures { λ r. ⌜ now r ≡ drop (by - w) (now (posts .entry)) ⌝ }
+{
+    if by == 0 {
+        return posts;
+    }
+    let from = (by - w) as usize;
+    &posts[from..]
+}
+
 // Where a window of postings goes on that begins at word `at`: behind its first `by` words if the last posting among those is below the key,
-// and else where it was. Where `by` is 0 no posting is looked at.
-fn moved(posts: &[u32], w: u32, at: u32, by: u32, key: u32) -> u32
-    requires { ⌜ (1 ≤ w) × (0 < by → w ≤ by) × (at + by ≤ length (now posts)) × (at + by < 2 ^ 32) ⌝ }
-    ensures { λ r. ⌜ r ≡ at + when (ltb (getD (now (posts .entry)) (at + (by - w)) 0) key) by ⌝ }
+// and else where it was. `lasts` has that posting at word `at`. Where `by` is 0 no posting is looked at.
+fn moved(lasts: &[u32], at: u32, by: u32, key: u32) -> u32
+    requires { ⌜ (0 < by → at < length (now lasts)) × (at + by < 2 ^ 32) ⌝ }
+    ensures { λ r. ⌜ r ≡ at + when (ltb (getD (now (lasts .entry)) at 0) key) by ⌝ }
 {
     if by == 0 {
         return at;
     }
-    let x = posts[(at as usize) + ((by - w) as usize)];
-    at + step(x, key, by)
+    at + step(lasts[at as usize], key, by)
 }
 
 // Three levels of the search, for all of m hashes: a window of `len` postings becomes one of an eighth as many. Three at a time spare reads and
@@ -54,12 +66,15 @@ fn narrow(
     let half = width * (len - rest);
     let quarter = width * (rest - last);
     let eighth = width * (last - last / 2);
+    let a = tail(posts, width, half);
+    let b = tail(posts, width, quarter);
+    let c = tail(posts, width, eighth);
     let mut i = 0;
     while i < m {
         let key = maps::key_at(hashes, h, i);
-        let at = moved(posts, width, starts[i], half, key);
-        let to = moved(posts, width, at, quarter, key);
-        starts[i] = moved(posts, width, to, eighth, key);
+        let at = moved(a, starts[i], half, key);
+        let to = moved(b, at, quarter, key);
+        starts[i] = moved(c, to, eighth, key);
         i += 1;
     }
 }
