@@ -40,7 +40,7 @@ fn best_of(s: &mut [i64], v: usize, refs: &[u32], q: PanakoQuery) -> Best
 }
 
 // The best candidate by the votes of the query's hashes, which are gathered and sorted in the scratch. `starts` and `ends` say where the
-// postings of each hash begin and end, `g` is the scale grid.
+// postings of each hash begin and end, `g` is the scale grid; `which` is written over.
 fn best_candidate(
     s: &mut [i64],
     refs: &[u32],
@@ -49,16 +49,17 @@ fn best_candidate(
     hashes: &[u32],
     starts: &[u32],
     ends: &[u32],
+    which: &mut [u32],
     q: PanakoQuery,
     g: ScaleGrid,
 ) -> Best
     requires { ⌜ Posted (now refs) (now posts) (now hashes) q × (p ≡ getD (now refs) 2 0) × (g ≡ gridOf (q .cfg))
         × (length (wordsIn q (now refs) (now posts) (now hashes)) ≤ 1000000) × (5 * length (wordsIn q (now refs) (now posts) (now hashes)) ≤ length (now s))
         × Starts (now posts) 5 p (now hashes) 4 (q .«q_len») (now starts) × Ends (now posts) 5 p (now hashes) 4 (q .«q_len») (now ends)
-        × (q .«q_len» ≤ length (now starts)) × (q .«q_len» ≤ length (now ends)) ⌝ }
+        × (q .«q_len» ≤ length (now starts)) × (q .«q_len» ≤ length (now ends)) × (q .«q_len» ≤ length (now which)) ⌝ }
     ensures { λ r. ⌜ bestSoFar r ≡ bestIn q (now (refs .entry)) (wordsIn q (now (refs .entry)) (now (posts .entry)) (now (hashes .entry))) ⌝ }
 {
-    let v = panako_voting::gather(s, posts, p, hashes, q.q_len, starts, ends, g);
+    let v = panako_voting::gather(s, posts, p, hashes, q.q_len, starts, ends, which, g);
     sorting::sort_words(s, v);
     best_of(s, v, refs, q)
 }
@@ -72,8 +73,9 @@ fn search_in(
     q: PanakoQuery,
     starts: &mut [u32],
     ends: &mut [u32],
+    which: &mut [u32],
 ) -> Finding
-    requires { ⌜ Posted (now refs) (now posts) (now hashes) q × (length (now s) / 12 ≤ 1000000) × Zeros (q .«q_len») (now starts) × (q .«q_len» ≤ length (now ends)) ⌝ }
+    requires { ⌜ Posted (now refs) (now posts) (now hashes) q × (length (now s) / 12 ≤ 1000000) × Zeros (q .«q_len») (now starts) × (q .«q_len» ≤ length (now ends)) × (q .«q_len» ≤ length (now which)) ⌝ }
     ensures { λ r. ⌜ findingAnswer r ≡ answerIn q (length (now (s .entry)) / 12) (now (refs .entry)) (now (posts .entry)) (now (hashes .entry)) ⌝ }
     ensures { λ _. ⌜ now (s .exit) ≡ scratchAfter (answerIn q (length (now (s .entry)) / 12) (now (refs .entry)) (now (posts .entry)) (now (hashes .entry))) (now (s .entry)) ⌝ }
 {
@@ -84,7 +86,7 @@ fn search_in(
     if !panako_voting::fits(ends, posts, p, hashes, q.q_len, starts, g, room) {
         return Finding::Refused(8);
     }
-    let best = best_candidate(s, refs, posts, p, hashes, starts, ends, q, g);
+    let best = best_candidate(s, refs, posts, p, hashes, starts, ends, which, q, g);
     maps::zero_words(s);
     ranking::answer_of(best)
 }
@@ -95,7 +97,7 @@ const FEW: usize = 64;
 
 const SOME: usize = 512;
 
-// The same with arrays for where the postings of each hash begin and end.
+// The same with arrays for where the postings of each hash begin and end, and for which hashes have some.
 fn search(s: &mut [i64], refs: &[u32], posts: &[u32], hashes: &[u32], q: PanakoQuery) -> Finding
     requires { ⌜ Posted (now refs) (now posts) (now hashes) q × (length (now s) / 12 ≤ 1000000) ⌝ }
     ensures { λ r. ⌜ findingAnswer r ≡ answerIn q (length (now (s .entry)) / 12) (now (refs .entry)) (now (posts .entry)) (now (hashes .entry)) ⌝ }
@@ -104,16 +106,46 @@ fn search(s: &mut [i64], refs: &[u32], posts: &[u32], hashes: &[u32], q: PanakoQ
     if q.q_len <= FEW {
         let mut starts = [0u32; 64];
         let mut ends = [0u32; 64];
-        return search_in(s, refs, posts, hashes, q, &mut starts, &mut ends);
+        let mut which = [0u32; 64];
+        return search_in(
+            s,
+            refs,
+            posts,
+            hashes,
+            q,
+            &mut starts,
+            &mut ends,
+            &mut which,
+        );
     }
     if q.q_len <= SOME {
         let mut starts = [0u32; 512];
         let mut ends = [0u32; 512];
-        return search_in(s, refs, posts, hashes, q, &mut starts, &mut ends);
+        let mut which = [0u32; 512];
+        return search_in(
+            s,
+            refs,
+            posts,
+            hashes,
+            q,
+            &mut starts,
+            &mut ends,
+            &mut which,
+        );
     }
     let mut starts = [0u32; 2048];
     let mut ends = [0u32; 2048];
-    search_in(s, refs, posts, hashes, q, &mut starts, &mut ends)
+    let mut which = [0u32; 2048];
+    search_in(
+        s,
+        refs,
+        posts,
+        hashes,
+        q,
+        &mut starts,
+        &mut ends,
+        &mut which,
+    )
 }
 
 // What every candidate is judged with: the settings after `normalize_config`.

@@ -2,3 +2,4 @@
 pub mod Pairs
 pub mod Walks
 pub mod Fitting
+pub mod Listing

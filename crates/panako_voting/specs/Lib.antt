@@ -1,2 +1,3 @@
 -- The votes of a Panako query.
 pub mod Gathered
+pub mod Listed

@@ -3,15 +3,17 @@ ghost use mathlib.Core.Path.{_≡_};
 ghost use mathlib.Core.Bool.{true};
 ghost use mathlib.Core.List.{_++_};
 ghost use Prim.Native.Nat.{_+_, _*_, _≤_, _<_, _^_, min};
-ghost use lib.Dec.{leb};
+ghost use lib.Dec.{leb, ltb};
 ghost use lib.ListN.{length, getD, take};
 ghost use Rattle.lists.specs.Keys.{under};
 ghost use Rattle.lists.specs.Entries.{entries, entryAt, keyOf, keysAscend};
+ghost use Rattle.maps.specs.Sums.{when};
 ghost use Rattle.maps.specs.Entries.{firstAt};
 ghost use Rattle.seeking.specs.Starts.{Starts, Ends, Sought};
 ghost use Rattle.panako_vote.specs.Grids.{Limited};
 ghost use Rattle.candidates.specs.Gathered.{Ids};
 ghost use Rattle.panako_voting.specs.Gathered.{wordsWith, words, voteCount, wordsOn, Packable};
+ghost use Rattle.panako_voting.specs.Listed.{Listed};
 use panako_vote::ScaleGrid;
 use panako_vote::Vote;
 
@@ -159,7 +161,71 @@ fn gather_key(
     gather_part(s, at, part, n, g, qa, qc)
 }
 
-// The votes of m query hashes with p postings, as words from the first on. Yields how many.
+// 1 where the postings from word `start` to before word `end` are some, else 0.
+fn is_met(start: u32, end: u32) -> usize
+    ensures { λ r. ⌜ (r ≡ when (ltb start end) 1) × (r ≤ 1) ⌝ }
+{
+    if start < end { 1 } else { 0 }
+}
+
+// Those of m query hashes that meet a posting go to `which`, in order. Yields how many they are. It has no branch on them: one hash in four
+// meets none, which can't be foreseen.
+fn list_met(which: &mut [u32], starts: &[u32], ends: &[u32], m: usize) -> usize
+    requires { ⌜ (m ≤ length (now which)) × (m ≤ length (now starts)) × (m ≤ length (now ends)) × (m ≤ 2048) ⌝ }
+    ensures { λ r. ⌜ Listed (now (starts .entry)) (now (ends .entry)) (now (which .exit)) m r ⌝ }
+{
+    let mut k = 0;
+    let mut i = 0;
+    while i < m {
+        which[k] = i as u32;
+        k += is_met(starts[i], ends[i]);
+        i += 1;
+    }
+    k
+}
+
+// The votes of m query hashes with p postings, as words from the first on; the k hashes that meet a posting are listed. Yields how many.
+fn gather_listed(
+    s: &mut [i64],
+    posts: &[u32],
+    p: usize,
+    hashes: &[u32],
+    m: usize,
+    starts: &[u32],
+    ends: &[u32],
+    which: &[u32],
+    k: usize,
+    g: ScaleGrid,
+) -> usize
+    requires { ⌜ Packable (now posts) p (now hashes) m g × Starts (now posts) 5 p (now hashes) 4 m (now starts) × Ends (now posts) 5 p (now hashes) 4 m (now ends)
+        × (m ≤ length (now starts)) × (m ≤ length (now ends)) × Listed (now starts) (now ends) (now which) m k × (m ≤ length (now which))
+        × (voteCount g (entries 5 p (now posts)) (entries 4 m (now hashes)) ≤ length (now s)) ⌝ }
+    ensures { λ r. ⌜ (r ≡ voteCount g (entries 5 p (now (posts .entry))) (entries 4 m (now (hashes .entry))))
+        × (take r (now (s .exit)) ≡ words g (entries 5 p (now (posts .entry))) (entries 4 m (now (hashes .entry)))) ⌝ }
+{
+    let mut v = 0;
+    let mut j = 0;
+    while j < k {
+        let i = which[j] as usize;
+        let t = 4 * i;
+        v = gather_key(
+            s,
+            v,
+            posts,
+            p,
+            starts[i],
+            ends[i],
+            hashes[t],
+            g,
+            hashes[t + 1],
+            hashes[t + 3],
+        );
+        j += 1;
+    }
+    v
+}
+
+// The votes of m query hashes with p postings, as words from the first on. Yields how many. `which` is written over.
 pub fn gather(
     s: &mut [i64],
     posts: &[u32],
@@ -168,30 +234,14 @@ pub fn gather(
     m: usize,
     starts: &[u32],
     ends: &[u32],
+    which: &mut [u32],
     g: ScaleGrid,
 ) -> usize
     requires { ⌜ Packable (now posts) p (now hashes) m g × Starts (now posts) 5 p (now hashes) 4 m (now starts) × Ends (now posts) 5 p (now hashes) 4 m (now ends)
-        × (m ≤ length (now starts)) × (m ≤ length (now ends)) × (voteCount g (entries 5 p (now posts)) (entries 4 m (now hashes)) ≤ length (now s)) ⌝ }
+        × (m ≤ length (now starts)) × (m ≤ length (now ends)) × (m ≤ length (now which)) × (voteCount g (entries 5 p (now posts)) (entries 4 m (now hashes)) ≤ length (now s)) ⌝ }
     ensures { λ r. ⌜ (r ≡ voteCount g (entries 5 p (now (posts .entry))) (entries 4 m (now (hashes .entry))))
         × (take r (now (s .exit)) ≡ words g (entries 5 p (now (posts .entry))) (entries 4 m (now (hashes .entry)))) ⌝ }
 {
-    let mut v = 0;
-    let mut i = 0;
-    while i < m {
-        let k = 4 * i;
-        v = gather_key(
-            s,
-            v,
-            posts,
-            p,
-            starts[i],
-            ends[i],
-            hashes[k],
-            g,
-            hashes[k + 1],
-            hashes[k + 3],
-        );
-        i += 1;
-    }
-    v
+    let k = list_met(which, starts, ends, m);
+    gather_listed(s, posts, p, hashes, m, starts, ends, which, k, g)
 }

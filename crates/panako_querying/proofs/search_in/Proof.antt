@@ -26,13 +26,13 @@ scale-grid-requires c κs = search needs
 
 seek-requires : tie.Need-seek-requires
 seek-requires c κs =
-    let s = c .before .before .before .before .before .before .before .before in
+    let s = c .before .before .before .before .before .before .before .before .before in
     (rw (c .before .before .header .ensures .postings) (s .pre .0 .packable .walk), s .pre .2)
 
 fits-requires : tie.Need-fits-requires
 fits-requires c κs =
     let grid = c .before .before .before .before .before .before in
-    let s = grid .before .before .before .before .before .before .before in
+    let s = grid .before .before .before .before .before .before .before .before in
     let seek = c .before .before .before .before .seek in
     let e = grid .before .header .ensures .postings in
     rw e (s .pre .0 .packable .walk, rw e at (seek .ensures), omega (arith, seek .kept .0, s .pre .2 .long), s .pre .3, omega (arith, s .pre .1))
@@ -46,7 +46,7 @@ module _ (c : tie.After-fits2) where
   grid = c .before .before .before .before .before .before .before
 
   abbrev s : tie.Start
-  s = grid .before .before .before .before .before .before .before
+  s = grid .before .before .before .before .before .before .before .before
 
   abbrev room : ℕ
   room = length (s .args .s .now) / 12
@@ -65,13 +65,13 @@ returns c =
 
 best-candidate-requires : tie.Need-best-candidate-requires
 best-candidate-requires c κs =
-    let left = c .before .before .before in
+    let left = c .before .before .before .before in
     let k = left .before .before .before in
     let o = s k in
     let seek = k .before .before .before .before .before .seek in
     let yes = not-false (k .fits2 .result) (left .if1 .left) in
     let fit = all-fit (reading (o .args .q)) (room k) (o .args .refs .now) (words k) (min (room k + 1) (length (words k))) refl (omega (arith, leb-true (length (words k)) (room k) (sym (fitting k) ∙ yes))) in
-    (o .pre .0, grid k .before .header .ensures .postings, grid k .scale-grid .ensures .0, omega (arith, o .pre .1), omega arith, seek .ensures, k .fits2 .ensures .1 yes, omega (arith, seek .kept .0, o .pre .2 .long), omega (arith, k .fits2 .kept .0, o .pre .3))
+    (o .pre .0, grid k .before .header .ensures .postings, grid k .scale-grid .ensures .0, omega (arith, o .pre .1), omega arith, seek .ensures, k .fits2 .ensures .1 yes, omega (arith, seek .kept .0, o .pre .2 .long), omega (arith, k .fits2 .kept .0, o .pre .3), o .pre .4)
 
 zero-words-requires : tie.Need-zero-words-requires
 zero-words-requires c κs = search needs
@@ -94,10 +94,13 @@ same-length-4 c = search needs
 same-length-5 : tie.Need-same-length-5
 same-length-5 c = search needs
 
+same-length-6 : tie.Need-same-length-6
+same-length-6 c = search needs
+
 returns-2 : tie.Need-returns-2
 returns-2 c =
-    let best = c .before .before .before .before .before in
-    let left = best .before .before .before .before in
+    let best = c .before .before .before .before .before .before .before in
+    let left = best .before .before .before .before .before in
     let k = left .before .before .before in
     let o = s k in
     answered (reading (o .args .q)) (room k) (o .args .refs .now) (words k) (min (room k + 1) (length (words k))) refl (omega (arith, leb-true (length (words k)) (room k) (sym (fitting k) ∙ not-false (k .fits2 .result) (left .if1 .left))))
@@ -120,4 +123,5 @@ search-in-spec =
     same-length-3
     same-length-4
     same-length-5
+    same-length-6
     returns-2)
