@@ -26,6 +26,8 @@ struct Card {
     lists: usize,
     hashes: usize,
     bits: u32,
+    /// How long a time of a list is when it is heard, in percent.
+    percent: u32,
     sizes: Sizes,
     /// Calls that are timed together, and turns.
     batch: usize,
@@ -37,6 +39,7 @@ const SCHOOL: Card = Card {
     lists: 30,
     hashes: 30,
     bits: 22,
+    percent: 100,
     sizes: Sizes {
         rows: 32,
         postings: 1024,
@@ -52,6 +55,7 @@ const fn depot(name: &'static str, lists: usize, bits: u32, postings: usize) -> 
         lists,
         hashes: 3000,
         bits,
+        percent: 100,
         sizes: Sizes {
             rows: 512,
             postings,
@@ -280,6 +284,15 @@ fn queries(only: Option<&str>) {
             rows.extend(measure_queries::<Panako>("PanakoIndex", card, hashes, room));
         }
     }
+    if asked("Panako query") {
+        let slower = Card {
+            name: "30 × 30, 22 bits, a tenth slower",
+            percent: 110,
+            ..SCHOOL
+        };
+        let room = Room::Votes(256);
+        rows.extend(measure_queries::<Panako>("PanakoIndex", slower, 30, room));
+    }
     for hashes in [500, 1000, 2000] {
         if asked("Wang query") {
             rows.extend(measure_spread::<Wang>("WangIndex", hashes));
@@ -312,7 +325,8 @@ fn heard<I: Index>(rng: &mut Rng, card: Card, list: &[u32], hashes: usize) -> Ve
             0 => rng.below(1 << card.bits) as u32,
             _ => hash[0],
         };
-        let times = hash[1..].iter().map(|time| time - begin + off);
+        let heard = |time: &u32| (time - begin) * card.percent / 100 + off;
+        let times = hash[1..].iter().map(heard);
         [key].into_iter().chain(times).collect::<Vec<u32>>()
     };
     part.chunks_exact(I::HASH).flat_map(hash).collect()

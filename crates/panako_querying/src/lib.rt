@@ -106,46 +106,19 @@ fn search(s: &mut [i64], refs: &[u32], posts: &[u32], hashes: &[u32], q: PanakoQ
     if q.q_len <= FEW {
         let mut starts = [0u32; 64];
         let mut ends = [0u32; 64];
-        let mut which = [0u32; 64];
-        return search_in(
-            s,
-            refs,
-            posts,
-            hashes,
-            q,
-            &mut starts,
-            &mut ends,
-            &mut which,
-        );
+        let mut met = [0u32; 64];
+        return search_in(s, refs, posts, hashes, q, &mut starts, &mut ends, &mut met);
     }
     if q.q_len <= SOME {
         let mut starts = [0u32; 512];
         let mut ends = [0u32; 512];
-        let mut which = [0u32; 512];
-        return search_in(
-            s,
-            refs,
-            posts,
-            hashes,
-            q,
-            &mut starts,
-            &mut ends,
-            &mut which,
-        );
+        let mut met = [0u32; 512];
+        return search_in(s, refs, posts, hashes, q, &mut starts, &mut ends, &mut met);
     }
     let mut starts = [0u32; 2048];
     let mut ends = [0u32; 2048];
-    let mut which = [0u32; 2048];
-    search_in(
-        s,
-        refs,
-        posts,
-        hashes,
-        q,
-        &mut starts,
-        &mut ends,
-        &mut which,
-    )
+    let mut met = [0u32; 2048];
+    search_in(s, refs, posts, hashes, q, &mut starts, &mut ends, &mut met)
 }
 
 // What every candidate is judged with: the settings after `normalize_config`.
