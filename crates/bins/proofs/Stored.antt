@@ -5,7 +5,7 @@ use Prim.Native.Nat.{ℕ, suc, _+_, _≤_}
 use native.Mathlib.Omega.{arith}
 use lib.IntN.{ℤ}
 use lib.ListN.{length, set, take, drop, length-set}
-use lib.Seq.{take-add, take-suc-set, drop-append-seam, length-take-le}
+use lib.Seq.{take-add, take-set-le, take-suc-set, drop-append-seam, length-take-le}
 use Rattle.maps.specs.Words.{SameOutside}
 use Rattle.maps.proofs.Words.{outside-set}
 use Rattle.bins.specs.Codes.{stored}
@@ -21,6 +21,11 @@ stored-more s j (x ∷ xs) ys =
     let ih = stored-more (set s j x) (j + 1) xs ys in
     let e : j + suc (length xs) ≡ j + 1 + length xs = omega arith in
     rw e ih
+
+-- words before those that were stored
+pub stored-before : (s : List ℤ) (j : ℕ) (ws : List ℤ) (k : ℕ) → k ≤ j → take k (stored s j ws) ≡ take k s
+stored-before s j [] k h = refl
+stored-before s j (w ∷ ws) k h = stored-before (set s j w) (j + 1) ws k (omega arith) ∙ take-set-le k s j w h
 
 pub stored-outside : (s₀ s : List ℤ) (d e j : ℕ) (ws : List ℤ) → SameOutside s₀ s d e → d ≤ j → j + length ws ≤ e → SameOutside s₀ (stored s j ws) d e
 stored-outside s₀ s d e j [] S h k = S

@@ -98,7 +98,7 @@ fn last_bits(x: u64, size: u32) -> u64
 }
 
 // The code of the vote in word i.
-fn code_at(s: &[i64], i: usize, f: Form) -> u64
+pub fn code_at(s: &[i64], i: usize, f: Form) -> u64
     requires { ⌜ (i < length (now s)) × Fits f ⌝ }
     ensures { λ r. ⌜ (r ≡ codeIn f (getD (now (s .entry)) i (pos 0))) × (r < 2 ^ 52) ⌝ }
 {
@@ -117,7 +117,7 @@ fn put_offset(s: &mut [i64], j: usize, x: u64, count: u64, middle: u64)
 }
 
 // The bin of a code, from word j on. Yields where the next one begins.
-fn put_bin(s: &mut [i64], j: usize, code: u64, count: u64, f: Form, middle: u64) -> usize
+pub fn put_bin(s: &mut [i64], j: usize, code: u64, count: u64, f: Form, middle: u64) -> usize
     requires { ⌜ (j + width f ≤ length (now s)) × (code < 2 ^ 52) × (count < 2 ^ 63) × (middle < 2 ^ 40) ⌝ }
     ensures { λ r. ⌜ (r ≡ j + width f) × (now (s .exit) ≡ stored (now (s .entry)) j (binWords f middle code count)) ⌝ }
 {

@@ -23,14 +23,14 @@ use Rattle.candidates.proofs.Judged.{judged-some}
 use Rattle.candidates.proofs.Groups.{later-none, own-part, other-same}
 
 -- the result in a verdict is the judge's
-result-of : (o : Option MatchResult) → resultIn (verdictOf o) ≡ o
+pub result-of : (o : Option MatchResult) → resultIn (verdictOf o) ≡ o
 result-of none = refl
 result-of (some r) = refl
 
 -- ---- words that stay as they are
 
 module _ (s s′ : List ℤ) (v : ℕ) (same : take v s′ ≡ take v s) where
-  word-same : (t : ℕ) → t < v → getD s′ t (pos 0) ≡ getD s t (pos 0)
+  pub word-same : (t : ℕ) → t < v → getD s′ t (pos 0) ≡ getD s t (pos 0)
   word-same t h = sym (getD-take v s′ t (pos 0) h) ∙ ap (λ (l : List ℤ). getD l t (pos 0)) same ∙ getD-take v s t (pos 0) h
 
   part-same : (e : ℕ) → e ≤ v → take e s′ ≡ take e s

@@ -6,7 +6,7 @@ use Prim.Native.Nat.{ℕ, zero, suc, _+_, _-_, _*_, _/_, _%_, _^_, _≤_, _<_, c
 use native.Mathlib.Nat.{lt-of-lt-of-le, lt-of-le-of-lt, div-le-self, lt-irrefl, not-le-of-lt, le-of-lt, one-mul, mod-lt, pow-succ', zero-lt-suc, eq-or-lt-of-le, div-eq-of-lt, le-div-iff-mul-le, div-lt-iff-lt-mul}
 use native.Mathlib.Omega.{arith}
 use lib.Dec.{T, ltb, isLe, isEq, eqb, leb→le, nleb→lt, eqb→eq, eqb-refl, lit<}
-use lib.Pow.{pow-pos, pow-mono, shl-exact, shr-lt}
+use lib.Pow.{pow-add, pow-pos, pow-mono, shl-exact, shr-lt}
 use lib.Bits.{bitAnd, and-mask}
 use lib.Count.{leadingZeros, leading-length}
 use lib.Ieee.{nearest}
@@ -16,7 +16,7 @@ use Rattle.lists.proofs.Tests.{test}
 -- ---- the three ways of `nearest`, by the two numbers that `compare` compares
 
 module _ (q a b : ℕ) where
-  nearest-below : a < b → nearest q (compare a b) ≡ q
+  pub nearest-below : a < b → nearest q (compare a b) ≡ q
   nearest-below h = go (compare a b) (nleb→lt a b) (eqb→eq a b)
     where
       go : (o : Ordering) → (T (not (isLe o)) → b < a) → (T (isEq o) → a ≡ b) → nearest q o ≡ q
@@ -24,7 +24,7 @@ module _ (q a b : ℕ) where
       go Ordering·eq g e = absurd (lt-irrefl b (subst (λ (x : ℕ). x < b) (e tt) h))
       go Ordering·gt g e = absurd (not-le-of-lt h (le-of-lt (g tt)))
 
-  nearest-above : b < a → nearest q (compare a b) ≡ q + 1
+  pub nearest-above : b < a → nearest q (compare a b) ≡ q + 1
   nearest-above h = go (compare a b) (leb→le a b)
     where
       next : (q : ℕ) → suc q ≡ q + 1
@@ -35,7 +35,7 @@ module _ (q a b : ℕ) where
       go Ordering·eq l = absurd (not-le-of-lt h (l tt))
       go Ordering·gt l = next q
 
-  nearest-level : a ≡ b → nearest q (compare a b) ≡ q + q % 2
+  pub nearest-level : a ≡ b → nearest q (compare a b) ≡ q + q % 2
   nearest-level h = go (compare a b) (subst (λ (x : ℕ). T (eqb a x)) h (eqb-refl a))
     where
       go : (o : Ordering) → T (isEq o) → nearest q o ≡ q + q % 2
@@ -148,20 +148,15 @@ small-of-zeros n h z =
     left : (z m : ℕ) → z + m ≡ 64 → 40 ≤ z → m ≤ 24
     left z m e h = omega arith
 
-pub digits-of-zeros : (n : ℕ) → n < 2 ^ 64 → leadingZeros 64 n < 40 → (2 ^ (23 + (40 - leadingZeros 64 n)) ≤ n) × (n < 2 ^ (24 + (40 - leadingZeros 64 n)))
+pub digits-of-zeros : (n : ℕ) → n < 2 ^ 64 → leadingZeros 64 n < 40 → (2 ^ 23 * 2 ^ (40 - leadingZeros 64 n) ≤ n) × (n < 2 ^ 24 * 2 ^ (40 - leadingZeros 64 n))
 digits-of-zeros n h z =
     let m = leading-length 64 n h in
     let k = 40 - leadingZeros 64 n in
-    let e : m .0 ≡ 24 + k = left (leadingZeros 64 n) (m .0) (m .1) z in
-    let hi : n < 2 ^ (24 + k) = subst (λ (x : ℕ). n < 2 ^ x) e (m .2) in
-    let lo : 2 ^ (24 + k) ≤ 2 * n + 1 = subst (λ (x : ℕ). 2 ^ x ≤ 2 * n + 1) e (m .3) in
-    (half (2 ^ (23 + k)) n (subst (λ (x : ℕ). x ≤ 2 * n + 1) (ap (λ (x : ℕ). 2 ^ x) (next k) ∙ pow-succ' 2 (23 + k)) lo), hi)
+    let e : 2 ^ m .0 ≡ 2 ^ 24 * 2 ^ k = ap (λ (x : ℕ). 2 ^ x) (left (leadingZeros 64 n) (m .0) (m .1) z) ∙ pow-add 2 24 k in
+    both n (2 ^ m .0) (2 ^ k) e (m .2) (m .3)
   where
     left : (z m : ℕ) → z + m ≡ 64 → z < 40 → m ≡ 24 + (40 - z)
     left z m e h = omega arith
 
-    next : (k : ℕ) → 24 + k ≡ suc (23 + k)
-    next k = omega arith
-
-    half : (p n : ℕ) → 2 * p ≤ 2 * n + 1 → p ≤ n
-    half p n h = omega arith
+    both : (n p q : ℕ) → p ≡ 2 ^ 24 * q → n < p → p ≤ 2 * n + 1 → (2 ^ 23 * q ≤ n) × (n < 2 ^ 24 * q)
+    both n p q e h g = (omega arith, omega arith)

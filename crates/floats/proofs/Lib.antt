@@ -3,6 +3,7 @@ pub mod Cut
 pub mod Assembled
 pub mod Exactly
 pub mod Away
+pub mod Whole
 pub mod Narrow
 pub mod Numbers
 pub mod Patterns

@@ -1,19 +1,19 @@
 -- What the float leaves' proofs share: a value that a format holds is written in one way (`value-unique`); a rounded value rounds to itself (`round-grid`);
--- and a whole number of 24 + k digits is rounded by its k lowest digits (`digits-value`). Assumes nothing.
+-- and a fraction that has the format's number of digits in units of 2 ^ k is rounded to a whole number of them (`digits-value`). Assumes nothing.
 use mathlib.Core.Path.{_≡_, refl, sym, ap, _∙_, subst}
 use mathlib.Core.Logic.{_⊎_, inl, inr}
 use mathlib.Core.Bool.{Bool, false, _&&_}
 use Prim.Native.Nat.{ℕ, zero, suc, _+_, _-_, _*_, _/_, _%_, _^_, _≤_, _<_, compare}
-use native.Mathlib.Nat.{le-trans, le-of-eq, lt-of-lt-of-le, lt-of-le-of-lt, lt-of-not-le, not-le-of-lt, lt-irrefl, eq-or-lt-of-le, zero-lt-suc, zero-mul, one-mul, mul-one, mul-comm, mul-assoc, mul-left-comm, mul-right-comm, mul-pos, mul-le-mul-right, eq-of-mul-eq-mul-right, pow-suc, pow-succ', div-one, div-div-eq-div-mul}
+use native.Mathlib.Nat.{le-trans, le-of-eq, lt-of-lt-of-le, lt-of-le-of-lt, lt-of-not-le, not-le-of-lt, lt-irrefl, eq-or-lt-of-le, zero-lt-suc, zero-mul, one-mul, mul-one, mul-comm, mul-assoc, mul-left-comm, mul-right-comm, mul-pos, mul-le-mul-right, eq-of-mul-eq-mul-right, pow-suc, pow-succ', div-div-eq-div-mul, div-lt-iff-lt-mul, le-div-iff-mul-le, mul-lt-mul-of-pos-right}
 use native.Mathlib.Omega.{arith}
 use lib.IntN.{ℤ, pos, negsuc}
 use lib.Dec.{T, eqb, ltb, leb, eqb→eq, lit<}
-use lib.Pow.{pow-add, pow-pos, pow-mono, shl-lt}
-use lib.Ieee.{Float, nan, inf, fin, Format, binary32, binary64, prec, emax, low, up, down, size, round, ofInt, fits}
+use lib.Pow.{pow-add, pow-pos, pow-mono, pow-lt}
+use lib.Ieee.{Float, nan, inf, fin, Format, binary32, binary64, prec, emax, low, hid, up, down, size, round, ofInt, fits}
 use lib.Ieee.Digits.{size-lt, size-le}
-use lib.Ieee.Fits.{up-pos, down-pos, and-l, round-fits, nearest-le, kept-lt}
+use lib.Ieee.Fits.{up-pos, down-pos, and-l, round-fits, nearest-le, kept-lt, two, two-le-pos}
 use lib.Ieee.Exact.{HasValue, round-exact}
-use lib.Ieee.Nearest.{closest, closest-same}
+use lib.Ieee.Nearest.{closest, closest-same, nearest-ge}
 use lib.Ieee.Order.{drop, kept}
 use lib.Ieee.Scale.{round-val, grid, overflow}
 
@@ -127,50 +127,50 @@ round-grid f a c h =
     (exact-at f false (kept (prec f) (a * 2 ^ low f) c) (drop (prec f) (a * 2 ^ low f) c) (kept-le (prec f) (a * 2 ^ low f) c) h)
     (round-val f a c h)
 
--- ---- a whole number of 24 + k digits
+-- ---- a fraction n / c with prec digits in units of u = 2 ^ k
 
 size-gt : (n j : ℕ) → 2 ^ j ≤ n → j < size n
 size-gt n j h = lt-of-not-le (λ (g : size n ≤ j). not-le-of-lt (lt-of-lt-of-le (size-lt n) (pow-mono g)) h)
 
-exactly : (z k : ℕ) → z ≤ 24 + k + 149 → 23 + k + 149 < z → z - 24 ≡ k + 149
-exactly z k a b = omega arith
+exactly : (z p r : ℕ) → 0 < p → z ≤ p + r → p - 1 + r < z → z - p ≡ r
+exactly z p r P a b = omega arith
 
-module _ (n k : ℕ) (lo : 2 ^ (23 + k) ≤ n) (hi : n < 2 ^ (24 + k)) where
-  drop-is : drop 24 (n * 2 ^ 149) 1 ≡ k + 149
+module _ (f : Format) (n c k u : ℕ) (C : 0 < c) (unit : u ≡ c * 2 ^ k) (lo : hid f * u ≤ n) (hi : n < 2 ^ prec f * u) where
+  -- in units of the format's smallest value
+  scaled : (j : ℕ) → 2 ^ j * u * 2 ^ low f ≡ 2 ^ (j + (k + low f)) * c
+  scaled j = rw unit (simp (mul-assoc, mul-comm, mul-left-comm, pow-add))
+
+  drop-is : drop (prec f) (n * 2 ^ low f) c ≡ k + low f
   drop-is =
-      let d : n * 2 ^ 149 / 1 ≡ n * 2 ^ 149 = div-one (n * 2 ^ 149) in
-      exactly (size (n * 2 ^ 149 / 1)) k
-      (size-le (n * 2 ^ 149 / 1) (24 + k + 149) (subst (λ (x : ℕ). x < 2 ^ (24 + k + 149)) (sym d) (shl-lt (24 + k) 149 hi)))
-      (size-gt (n * 2 ^ 149 / 1) (23 + k + 149) (subst (λ (x : ℕ). 2 ^ (23 + k + 149) ≤ x) (sym d) (le-trans (le-of-eq (pow-add 2 (23 + k) 149)) (mul-le-mul-right (2 ^ 149) lo))))
+      exactly (size (n * 2 ^ low f / c)) (prec f) (k + low f) (two-le-pos (prec f) (two f))
+      (size-le (n * 2 ^ low f / c) (prec f + (k + low f)) (div-lt-iff-lt-mul C .1 (lt-of-lt-of-le (mul-lt-mul-of-pos-right hi (pow-pos (low f))) (le-of-eq (scaled (prec f))))))
+      (size-gt (n * 2 ^ low f / c) (prec f - 1 + (k + low f)) (le-div-iff-mul-le C .1 (le-trans (le-of-eq (sym (scaled (prec f - 1)))) (mul-le-mul-right (2 ^ low f) lo))))
 
-  grid-is : grid binary32 n 1 ≡ closest n (2 ^ k) * 2 ^ (k + 149)
-  grid-is =
-      ap (λ (x : ℕ). closest (n * 2 ^ 149) (1 * 2 ^ x) * 2 ^ x) drop-is
-      ∙ ap (λ (x : ℕ). x * 2 ^ (k + 149))
-      (closest-same (n * 2 ^ 149) (1 * 2 ^ (k + 149)) n (2 ^ k) (mul-pos (zero-lt-suc 0) (pow-pos (k + 149))) (pow-pos k)
-      (mul-assoc n (2 ^ 149) (2 ^ k) ∙ ap (λ (x : ℕ). n * x) (mul-comm (2 ^ 149) (2 ^ k) ∙ sym (pow-add 2 k 149) ∙ sym (one-mul (2 ^ (k + 149))))))
+  unit-pos : 0 < u
+  unit-pos = subst (λ (x : ℕ). 0 < x) (sym unit) (mul-pos C (pow-pos k))
 
-  pub few-digits : closest n (2 ^ k) ≤ 2 ^ 24
-  few-digits =
-      subst (λ (x : ℕ). x ≤ 2 ^ 24)
-      (closest-same (n * 2 ^ 149) (1 * 2 ^ drop 24 (n * 2 ^ 149) 1) n (2 ^ k) (mul-pos (zero-lt-suc 0) (pow-pos (drop 24 (n * 2 ^ 149) 1))) (pow-pos k)
-      (ap (λ (x : ℕ). n * 2 ^ 149 * x) refl ∙ mul-assoc n (2 ^ 149) (2 ^ k) ∙ ap (λ (x : ℕ). n * x) (mul-comm (2 ^ 149) (2 ^ k) ∙ sym (pow-add 2 k 149) ∙ sym (ap (λ (x : ℕ). 2 ^ x) drop-is) ∙ sym (one-mul (2 ^ drop 24 (n * 2 ^ 149) 1)))))
-      (kept-le 24 (n * 2 ^ 149) 1)
+  kept-is : kept (prec f) (n * 2 ^ low f) c ≡ closest n u
+  kept-is =
+      ap (λ (x : ℕ). closest (n * 2 ^ low f) (c * 2 ^ x)) drop-is
+      ∙ closest-same (n * 2 ^ low f) (c * 2 ^ (k + low f)) n u (mul-pos C (pow-pos (k + low f))) unit-pos (rw unit (simp (mul-assoc, mul-comm, mul-left-comm, pow-add)))
 
-  below-overflow : k ≤ 40 → grid binary32 n 1 < overflow binary32
-  below-overflow h =
-      subst (λ (x : ℕ). x < overflow binary32) (sym grid-is)
-      (lt-of-le-of-lt (mul-le-mul-right (2 ^ (k + 149)) few-digits)
-      (lt-of-le-of-lt (le-of-eq (sym (pow-add 2 24 (k + 149)))) (lt-of-le-of-lt (pow-mono (room k h)) (lit< tt))))
+  grid-is : grid f n c ≡ closest n u * 2 ^ (k + low f)
+  grid-is = ap (λ (x : ℕ). x * 2 ^ drop (prec f) (n * 2 ^ low f) c) kept-is ∙ ap (λ (x : ℕ). closest n u * 2 ^ x) drop-is
+
+  pub few-digits : closest n u ≤ 2 ^ prec f
+  few-digits = subst (λ (x : ℕ). x ≤ 2 ^ prec f) kept-is (kept-le (prec f) (n * 2 ^ low f) c)
+
+  pub all-digits : hid f ≤ closest n u
+  all-digits = le-trans (le-div-iff-mul-le unit-pos .1 lo) (nearest-ge (n / u) (compare (n % u * 2) u))
+
+  -- it is rounded to a whole number of these units
+  pub digits-value : prec f + k ≤ emax f → HasValue (round f false n c) false (closest n u * 2 ^ (k + low f)) (2 ^ low f)
+  digits-value h = subst (λ (x : ℕ). HasValue (round f false n c) false x (2 ^ low f)) grid-is (round-val f n c (subst (λ (x : ℕ). x < overflow f) (sym grid-is) under))
     where
-      room : (k : ℕ) → k ≤ 40 → 24 + (k + 149) ≤ 213
-      room k h = omega arith
+      room : (p k l e : ℕ) → p + k ≤ e → p + (k + l) < l + suc e
+      room p k l e h = omega arith
 
-  -- of its k lowest digits cut off, and the others rounded
-  pub digits-value : k ≤ 40 → HasValue (ofInt binary32 (pos n)) false (closest n (2 ^ k) * 2 ^ (k + 149)) (2 ^ 149)
-  digits-value h =
-      let u = closest n (2 ^ k) in
-      let small = below-overflow h in
-      subst (λ (x : Float). HasValue x false (u * 2 ^ (k + 149)) (2 ^ 149))
-      (ap (λ (x : ℕ). round binary32 false x (2 ^ 149)) (sym grid-is) ∙ round-grid binary32 n 1 small ∙ sym (ofInt-is binary32 n))
-      (exact-at binary32 false u (k + 149) few-digits (subst (λ (x : ℕ). x < overflow binary32) grid-is small))
+      under : closest n u * 2 ^ (k + low f) < overflow f
+      under =
+          lt-of-le-of-lt (mul-le-mul-right (2 ^ (k + low f)) few-digits)
+          (lt-of-le-of-lt (le-of-eq (sym (pow-add 2 (prec f) (k + low f)))) (pow-lt (room (prec f) k (low f) (emax f) h)))

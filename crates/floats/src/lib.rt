@@ -1,7 +1,7 @@
 // The float operations of Rust's core that `matching` and the indexes use and that the language
 // lacks. Each contract is an equation with a term of `lib.Ieee` or with a definition of `specs/`.
 ghost use mathlib.Core.Path.{_≡_};
-ghost use mathlib.Core.Bool.{false};
+ghost use mathlib.Core.Bool.{true, false, cond};
 ghost use Prim.Native.Nat.{_≤_, _<_, _^_};
 ghost use lib.IntN.{pos, negsuc};
 ghost use lib.Dec.{T};
@@ -66,6 +66,67 @@ pub fn round_to_i64(x: f64) -> i64
         return 0 - (half_up(-x) as i64);
     }
     0
+}
+
+// The whole number that is nearest to some x, as a number and as a float.
+pub struct Nearest {
+    pub n: u64,
+    pub float: f64,
+}
+
+// The whole number that is nearest to x in 0 .. 2^51, ties to even. From 2^52 to 2^53 the values of
+// an f64 are the whole numbers, so the sum with 2^52 has none of x's fraction left, and its lowest
+// 52 digits are the number.
+fn nearest_whole(x: f64) -> Nearest
+    requires { ⌜ T (Ieee.le (fin false 0 (pos 0)) x) ⌝ ∗ ⌜ T (Ieee.lt x (fin false 1 (pos 51))) ⌝ }
+    ensures { λ r. ⌜ r .n ≡ closest (num x) (den x) ⌝ }
+    ensures { λ r. ⌜ r .float ≡ Ieee.ofInt binary64 (pos (closest (num x) (den x))) ⌝ }
+{
+    let sum: f64 = x + 4503599627370496.0;
+    Nearest {
+        n: f64::to_bits(sum) % 0x10_0000_0000_0000,
+        float: sum - 4503599627370496.0,
+    }
+}
+
+fn one_if(b: bool) -> u64
+    ensures { λ r. ⌜ r ≡ cond b 1 0 ⌝ }
+{
+    if b { 1 } else { 0 }
+}
+
+// Rust's `x as u64` for x in 0 .. 2^51, with no branch.
+pub fn small_whole_part(x: f64) -> u64
+    requires { ⌜ T (Ieee.le (fin false 0 (pos 0)) x) ⌝ ∗ ⌜ T (Ieee.lt x (fin false 1 (pos 51))) ⌝ }
+    ensures { λ r. ⌜ r ≡ Ieee.toUnsigned 64 x ⌝ }
+{
+    let near = nearest_whole(x);
+    near.n - one_if(x < near.float)
+}
+
+// x in 0 .. 2^51 to the nearest whole number, halves up, with no branch.
+fn small_half_up(x: f64) -> u64
+    requires { ⌜ T (Ieee.le (fin false 0 (pos 0)) x) ⌝ ∗ ⌜ T (Ieee.lt x (fin false 1 (pos 51))) ⌝ }
+    ensures { λ r. ⌜ r ≡ Rounding.halfUp (num x) (den x) ⌝ }
+{
+    let near = nearest_whole(x);
+    near.n + one_if(x >= near.float + 0.5)
+}
+
+// x with its sign cleared; a zero keeps its own.
+fn magnitude(x: f64) -> f64
+    ensures { λ r. ⌜ r ≡ cond (Ieee.lt x (fin false 0 (pos 0))) (Ieee.neg x) x ⌝ }
+{
+    if x < 0.0 { -x } else { x }
+}
+
+// Rust's `x.round() as i64` for x in -2^51 .. 2^51: halves away from zero.
+pub fn round_small_to_i64(x: f64) -> i64
+    requires { ⌜ T (Ieee.lt (fin true 1 (pos 51)) x) ⌝ ∗ ⌜ T (Ieee.lt x (fin false 1 (pos 51))) ⌝ }
+    ensures { λ r. ⌜ r ≡ Rounding.roundToI64 x ⌝ }
+{
+    let n = small_half_up(magnitude(x)) as i64;
+    if x < 0.0 { 0 - n } else { n }
 }
 
 // Rust's `x as f32` in 0.5 .. 2: the nearest `f32`, ties to even. x * 2^53 is a whole number, so the

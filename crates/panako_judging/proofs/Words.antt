@@ -1,8 +1,9 @@
 -- The votes in the words of the scratch, and the part of it that holds their bins. Assumes nothing.
-use mathlib.Core.Path.{_≡_, sym, ap, _∙_}
+use mathlib.Core.Path.{_≡_, refl, sym, ap, _∙_}
 use mathlib.Core.List.{List, map}
 use Prim.Native.Nat.{ℕ, _+_, _-_, _*_, _^_, _≤_, _<_}
 use native.Mathlib.Omega.{arith}
+use native.Mathlib.Decide.{decLt}
 use lib.IntN.{ℤ}
 use lib.ListN.{length, take, drop, length-drop}
 use lib.Seq.{length-take-le}
@@ -11,15 +12,15 @@ use Rattle.lists.proofs.Keep.{all-of, map-map, map-same}
 use Rattle.maps.specs.Words.{SameOutside}
 use Rattle.maps.proofs.Words.{outside-none}
 use Rattle.bins.specs.Codes.{codeIn, codesIn, occupied, binsOf, stored}
-use Rattle.bins.proofs.Stored.{stored-outside, stored-read}
-use Rattle.bins.proofs.Occupied.{occupied-few, bins-length}
+use Rattle.bins.proofs.Stored.{stored-length, stored-before, stored-outside, stored-read}
+use Rattle.bins.proofs.Occupied.{occupied-few, occupied-some, bins-length}
 use Rattle.bins.proofs.Binning.{codes-length, codes-each}
 use Rattle.hough.specs.Limits.{Bins}
 use Rattle.judging.specs.declared.Verdict.{Verdict}
 use Rattle.judging.proofs.Passing.{Weighed}
 use Rattle.panako_judging.specs.Judge as votes
 use Rattle.panako_judging.specs.Judge.{middle, codeOf, panakoForm, binCount, seenOf, askedOf, atPeak, resultOf}
-use Rattle.panako_judging.specs.Candidates.{voteIn, votesIn}
+use Rattle.panako_judging.specs.Candidates.{voteIn, votesIn, Binned}
 use Rattle.panako_judging.specs.declared.PanakoQuery.{PanakoQuery}
 use Rattle.panako_judging.proofs.Codes.{code-back}
 use Rattle.panako_judging.proofs.Binned.{bins-taken}
@@ -33,6 +34,23 @@ module _ (s : List ℤ) (a g : ℕ) (fits : a + g ≤ length s) where
   codes-are =
       let l = take g (drop a s) in
       map-map codeOf voteIn l ∙ map-same (λ z. codeOf (voteIn z)) (codeIn panakoForm) l (all-of (λ z. codeOf (voteIn z) ≡ codeIn panakoForm z) (λ z. code-back (codeIn panakoForm z)) l)
+
+  -- n bins of theirs, as words
+  module _ (n : ℕ) (l : List ℤ) (number : n ≡ binCount (votesIn s a g)) (words : l ≡ votes.binsOf (votesIn s a g)) where
+    pub bins-good : g ≤ 1000000 → Bins l n
+    bins-good few =
+        rw (words, number)
+        (bins-taken (map codeOf (votesIn s a g)) (rw codes-are (codes-each panakoForm s a g fits (λ k. k < 2 ^ 52) (λ t h. omega arith)))
+        (omega (arith, lib.ListN.length-map (votesIn s a g) codeOf, votes-length)))
+
+    pub bins-some : 0 < g → 0 < n
+    bins-some some = omega (arith, number, occupied-some (map codeOf (votesIn s a g)) (omega (arith, lib.ListN.length-map (votesIn s a g) codeOf, votes-length)))
+
+    -- what the gates say of them
+    pub weighed-bins : (q : PanakoQuery) (fps : Float) (v : Verdict)
+        → Weighed (askedOf q) (atPeak (seenOf q l n)) (resultOf q fps (seenOf q l n)) v
+        → Weighed (askedOf q) (atPeak (seenOf q (votes.binsOf (votesIn s a g)) (binCount (votesIn s a g)))) (resultOf q fps (seenOf q (votes.binsOf (votesIn s a g)) (binCount (votesIn s a g)))) v
+    weighed-bins q fps v w = rw (words, number) at w
 
   -- from `at` on, where there is room, their n bins were stored
   module _ (at n : ℕ) (l : List ℤ) (room : at + 3 * g ≤ length s) (number : n ≡ length (occupied (codesIn panakoForm s a g))) (written : l ≡ stored s at (binsOf panakoForm middle (codesIn panakoForm s a g))) where
@@ -53,16 +71,32 @@ module _ (s : List ℤ) (a g : ℕ) (fits : a + g ≤ length s) where
         let e : at + 3 * n - at ≡ length bins = omega (arith, k, number) in
         rw (e, written) (stored-read s at bins (omega (arith, k, number, bins-few)))
 
-    part-is : take (at + 3 * n - at) (drop at l) ≡ votes.binsOf (votesIn s a g)
+    pub part-is : take (at + 3 * n - at) (drop at l) ≡ votes.binsOf (votesIn s a g)
     part-is = part-words ∙ ap (binsOf panakoForm middle) (sym codes-are)
 
-    pub part-bins : g ≤ 1000000 → Bins (take (at + 3 * n - at) (drop at l)) n
-    part-bins few =
-        rw (part-words, number)
-        (bins-taken (codesIn panakoForm s a g) (codes-each panakoForm s a g fits (λ k. k < 2 ^ 52) (λ t h. omega arith)) (omega (arith, codes-length panakoForm s a g fits)))
+    -- behind the votes: they are as they were, and the bins stand there
+    pub few-binned : a ≡ 0 → g ≤ at → (take g l ≡ take g s) × Binned l g at n
+    few-binned e before =
+        let kept : take g l ≡ take g s = rw written (stored-before s at (binsOf panakoForm middle (codesIn panakoForm s a g)) g before) in
+        let same : votesIn l 0 g ≡ votesIn s a g = rw e (ap (map voteIn) kept) in (
+          kept,
+          record {
+            before = before;
+            room = omega (arith, bins-few, ap length written, stored-length s at (binsOf panakoForm middle (codesIn panakoForm s a g)));
+            number = bins-number ∙ ap binCount (sym same);
+            bins = part-is ∙ ap votes.binsOf (sym same);
+          },
+        )
 
-    -- what the gates say of it
-    pub weighed-part : (q : PanakoQuery) (fps : Float) (v : Verdict)
-        → Weighed (askedOf q) (atPeak (seenOf q (take (at + 3 * n - at) (drop at l)) n)) (resultOf q fps (seenOf q (take (at + 3 * n - at) (drop at l)) n)) v
-        → Weighed (askedOf q) (atPeak (seenOf q (votes.binsOf (votesIn s a g)) (binCount (votesIn s a g)))) (resultOf q fps (seenOf q (votes.binsOf (votesIn s a g)) (binCount (votesIn s a g)))) v
-    weighed-part q fps v w = rw (part-is, bins-number) at w
+-- what `count_few` says of the first g votes, whether it counted them or not
+pub few-counted : (s l : List ℤ) (g at n : ℕ) → g ≤ at → at + 3 * g ≤ length s
+    → (0 < n → (n ≡ length (occupied (codesIn panakoForm s 0 g))) × (l ≡ stored s at (binsOf panakoForm middle (codesIn panakoForm s 0 g))))
+    → (n ≡ 0 → l ≡ s) → (0 < n → Binned l g at n) × (take g l ≡ take g s)
+few-counted s l g at n before room told same = (λ h. binned h .1, go (decLt 0 n))
+  where
+    binned : 0 < n → (take g l ≡ take g s) × Binned l g at n
+    binned h = few-binned s 0 g (omega arith) at n l room (told h .0) (told h .1) refl before
+
+    go : Dec (0 < n) → take g l ≡ take g s
+    go (yes h) = binned h .0
+    go (no h) = ap (take g) (same (omega arith))

@@ -1,10 +1,11 @@
 -- A candidate's votes as they stand in the scratch, sorted, and what the code that judges it asks. Assumes nothing: these are definitions.
+use mathlib.Core.Path.{_≡_}
 use mathlib.Core.List.{List, map}
-use Prim.Native.Nat.{ℕ, _+_, _*_, _^_, _≤_, _<_}
+use Prim.Native.Nat.{ℕ, _+_, _-_, _*_, _^_, _≤_, _<_}
 use lib.IntN.{ℤ, pos, _-ℤ_}
-use lib.ListN.{take, drop}
+use lib.ListN.{length, take, drop}
 use Rattle.bins.specs.Codes.{codeIn, idIn, Group}
-use Rattle.panako_judging.specs.Judge.{Vote, codeOf, voteAt, panakoForm}
+use Rattle.panako_judging.specs.Judge.{Vote, codeOf, voteAt, panakoForm, binsOf, binCount}
 use Rattle.panako_judging.specs.declared.PanakoQuery.{PanakoQuery}
 
 -- ---- a vote as one word
@@ -35,3 +36,10 @@ pub record Candidate (s : List ℤ) (a g at : ℕ) (q : PanakoQuery) : Type 0 wh
   pub few : g ≤ 1000000
   pub tolerance : q .cfg .«offset_tolerance_frames» ≤ 65535
   pub group : Group panakoForm s a g at
+
+-- the n bins of the first g votes stand from word `at` on, behind the votes
+pub record Binned (s : List ℤ) (g at n : ℕ) : Type 0 where
+  pub before : g ≤ at
+  pub room : at + 3 * n ≤ length s
+  pub number : n ≡ binCount (votesIn s 0 g)
+  pub bins : take (at + 3 * n - at) (drop at s) ≡ binsOf (votesIn s 0 g)

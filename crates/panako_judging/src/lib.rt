@@ -3,14 +3,14 @@
 ghost use mathlib.Core.Path.{_≡_};
 ghost use Prim.Native.Nat.{_+_, _*_, _≤_, _<_, _^_};
 ghost use lib.IntN.{pos, natAbs, _+ℤ_, _-ℤ_};
-ghost use lib.ListN.{length, set};
+ghost use lib.ListN.{length, set, take};
 ghost use Rattle.maps.specs.Words.{SameOutside};
 ghost use Rattle.judging.specs.Gates.{peakGates, resultAt, passing, verdictOf};
 ghost use Rattle.hough.specs.Hough.{scale, peakOffset};
 ghost use Rattle.hough.specs.Limits.{Bins};
 ghost use Rattle.panako_vote.specs.Votes.{InRange};
 ghost use Rattle.panako_judging.specs.Judge.{middle, seenOf, askedOf, atPeak, scaleOf, resultOf, judgeBy};
-ghost use Rattle.panako_judging.specs.Candidates.{lowest, wordOf, votesIn, Candidate};
+ghost use Rattle.panako_judging.specs.Candidates.{lowest, wordOf, votesIn, Candidate, Binned};
 use bins::Form;
 use hough::Peak;
 use judging::Verdict;
@@ -20,6 +20,14 @@ use panako_vote::PanakoMatchConfig;
 pub const LOWEST: u64 = 0x8000_0000_0000_0000;
 
 const MIDDLE: i64 = 0x80_0000_0000;
+
+// How the votes stand in words.
+const FORM: Form = Form {
+    low: LOWEST,
+    bits: 0,
+    size: 52,
+    scaled: true,
+};
 
 // What every candidate of a query is judged with: normalised settings, the query's rate, how many hashes it has.
 pub struct PanakoQuery {
@@ -131,13 +139,33 @@ pub fn judge(s: &mut [i64], a: usize, g: usize, at: usize, q: PanakoQuery, rate:
     if !judging::admitted(q.frames_per_sec, fps, cfg.min_votes, g) {
         return Verdict::Barred;
     }
-    let form = Form {
-        low: LOWEST,
-        bits: 0,
-        size: 52,
-        scaled: true,
-    };
-    let n = bins::count_sorted(s, a, g, at, form, MIDDLE as u64);
+    let n = bins::count_sorted(s, a, g, at, FORM, MIDDLE as u64);
+    let e = at + 3 * n;
+    weigh(&s[at..e], n, q, fps)
+}
+
+// ---- a candidate with few bins
+
+// The bins of the first g votes, where they are few, are written from word `at` on: no order is asked of the votes. Yields how many bins there are,
+// or 0 where they are not counted.
+pub fn count_few(s: &mut [i64], g: usize, at: usize) -> usize
+    requires { ⌜ (g ≤ at) × (at + 3 * g ≤ length (now s)) × (g ≤ 1000000) ⌝ }
+    ensures { λ n. ⌜ (0 < n → Binned (now (s .exit)) g at n) ⌝ }
+    ensures { λ _. ⌜ take g (now (s .exit)) ≡ take g (now (s .entry)) ⌝ }
+{
+    counting::count_few(s, 0, g, at, FORM, MIDDLE as u64)
+}
+
+// A candidate: the first g votes, its row's rate, and its n bins from word `at` on.
+pub fn judge_binned(s: &[i64], g: usize, at: usize, n: usize, q: PanakoQuery, rate: u32) -> Verdict
+    requires { ⌜ Binned (now s) g at n × (0 < g) × (g ≤ 1000000) × (q .cfg .«offset_tolerance_frames» ≤ 65535) ⌝ }
+    ensures { λ r. ⌜ r ≡ verdictOf (judgeBy q rate (votesIn (now (s .entry)) 0 g)) ⌝ }
+{
+    let cfg = q.cfg;
+    let fps = floats::f32_from_bits(rate);
+    if !judging::admitted(q.frames_per_sec, fps, cfg.min_votes, g) {
+        return Verdict::Barred;
+    }
     let e = at + 3 * n;
     weigh(&s[at..e], n, q, fps)
 }

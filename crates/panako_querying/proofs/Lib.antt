@@ -1,5 +1,6 @@
 -- Laws of a Panako query's votes and candidates.
 pub mod Pairs
 pub mod Turns
+pub mod Few
 pub mod Sorted
 pub mod Queries

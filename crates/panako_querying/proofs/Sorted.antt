@@ -1,12 +1,13 @@
--- The gathered votes, sorted: what the walk over the candidates asks of them. Assumes nothing.
-use mathlib.Core.Path.{_≡_}
+-- The gathered votes, as they stand and sorted: what is asked of them. Assumes nothing.
+use mathlib.Core.Path.{_≡_, sym, ap, _∙_, subst}
 use mathlib.Core.List.{List}
 use Prim.Native.Nat.{ℕ, _+_, _*_, _^_, _≤_, _<_}
 use native.Mathlib.Omega.{arith}
-use lib.IntN.{ℤ}
+use lib.IntN.{ℤ, pos}
 use lib.ListN.{length, getD, take}
+use lib.Seq.{getD-take}
 use Rattle.lists.specs.Lists.{All}
-use Rattle.lists.proofs.Keep.{all-both, all-imp}
+use Rattle.lists.proofs.Keep.{all-at, all-both, all-imp}
 use Rattle.sorting.specs.Sort.{sortZ}
 use Rattle.panako_vote.specs.Grids.{gridOf}
 use Rattle.candidates.proofs.Gathering.{words-all}
@@ -26,3 +27,8 @@ module _ (rs ps hs : List ℕ) (q : PanakoQuery) (P : Posted rs ps hs q) (post-b
 
   pub sorted-votes : (s : List ℤ) (v : ℕ) → v ≡ length (wordsIn q rs ps hs) → take v s ≡ sortZ (wordsIn q rs ps hs) → v ≤ 1000000 → 5 * v ≤ length s → Votes rs s v q
   sorted-votes s v e sorted few room = record { limits = P .limits; words = sorting.sorted-votes (wordsIn q rs ps hs) s v e sorted (Known rs) 5 all-known few room }
+
+  -- the first of them, before they are sorted
+  pub first-known : (s : List ℤ) (v : ℕ) → v ≡ length (wordsIn q rs ps hs) → take v s ≡ wordsIn q rs ps hs → 0 < v → Known rs (getD s 0 (pos 0))
+  first-known s v e same some =
+      subst (Known rs) (ap (λ (l : List ℤ). getD l 0 (pos 0)) (sym same) ∙ getD-take v s 0 (pos 0) some) (all-at (Known rs) (wordsIn q rs ps hs) (pos 0) all-known 0 (omega arith))

@@ -1,8 +1,9 @@
 -- The candidates of a Panako query: how its words are read, and what the code asks of them. Definitions only. Assumes nothing.
+use mathlib.Core.Path.{_≡_}
 use mathlib.Core.List.{List}
 use mathlib.Core.Option.{Option}
 use Prim.Native.Nat.{ℕ, _+_, _*_, _≤_, _<_}
-use lib.IntN.{ℤ}
+use lib.IntN.{ℤ, pos}
 use lib.ListN.{length, getD}
 use Rattle.lists.specs.Lists.{All}
 use Rattle.lists.specs.Entries.{entries}
@@ -12,7 +13,7 @@ use Rattle.panako_vote.specs.Grids.{gridOf}
 use Rattle.candidates.specs.Candidates as of-reading
 use Rattle.panako_judging.specs.declared.PanakoQuery.{PanakoQuery}
 use Rattle.panako_judging.specs.Judge.{Vote, judgeBy}
-use Rattle.panako_judging.specs.Candidates.{recordingOf, voteIn}
+use Rattle.panako_judging.specs.Candidates.{recordingOf, voteIn, Binned}
 use Rattle.panako_voting.specs.Gathered.{words, Packable}
 
 -- how the word of a vote is read, and a recording judged
@@ -53,6 +54,12 @@ Known rs z = recordingOf z < getD rs 0 0
 pub record Votes (rs : List ℕ) (s : List ℤ) (v : ℕ) (q : PanakoQuery) : Type 0 where
   pub limits : Limits rs q
   pub words : of-reading.Votes (Known rs) 5 s v
+
+-- the first v words are votes of one recording, and their n bins stand from word 2 * v on
+pub record Alike (s : List ℤ) (v n : ℕ) : Type 0 where
+  pub some : 0 < v
+  pub one : (t : ℕ) → t < v → recordingOf (getD s t (pos 0)) ≡ recordingOf (getD s 0 (pos 0))
+  pub binned : Binned s v (2 * v) n
 
 -- postings and query hashes whose votes can be gathered; a posting is of a recording in the references
 pub record Posted (rs ps hs : List ℕ) (q : PanakoQuery) : Type 0 where

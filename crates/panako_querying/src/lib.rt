@@ -1,6 +1,7 @@
 // The query of PanakoIndex: votes are counted against the scratch, gathered, sorted, and judged candidate by candidate.
 ghost use mathlib.Core.Path.{_≡_};
-ghost use Prim.Native.Nat.{_*_, _/_, _≤_};
+ghost use Prim.Native.Nat.{_*_, _/_, _≤_, _<_};
+ghost use lib.IntN.{pos};
 ghost use lib.ListN.{length, getD, take};
 ghost use Rattle.model.specs.Fingerprints.{hashesOf};
 ghost use Rattle.model.specs.Run.{runQuery};
@@ -10,7 +11,7 @@ ghost use Rattle.seeking.specs.Starts.{Starts, Ends, Zeros};
 ghost use Rattle.panako_vote.specs.Grids.{gridOf};
 ghost use Rattle.panako_judging.specs.Scheme.{queryOf, panako};
 ghost use Rattle.panako_querying.specs.Asked.{asked};
-ghost use Rattle.panako_querying.specs.Candidates.{bestIn, wordsIn, answerIn, Votes, Posted};
+ghost use Rattle.panako_querying.specs.Candidates.{bestIn, wordsIn, answerIn, Limits, Known, Votes, Alike, Posted};
 use panako_judging::LOWEST;
 use panako_judging::PanakoQuery;
 use panako_vote::PanakoMatchConfig;
@@ -39,6 +40,42 @@ fn best_of(s: &mut [i64], v: usize, refs: &[u32], q: PanakoQuery) -> Best
     best
 }
 
+// The most votes of a candidate that are looked at for few bins.
+const MANY: usize = 64;
+
+// The bins of the first v words, where these are votes of one recording and the bins are few, as in most queries that are answered: no order is asked
+// of the votes. The bins are written from word 2 * v on. Yields how many they are, or 0 where they are not counted.
+fn few_bins(s: &mut [i64], v: usize) -> usize
+    requires { ⌜ (5 * v ≤ length (now s)) × (v ≤ 1000000) ⌝ }
+    ensures { λ n. ⌜ (0 < n → Alike (now (s .exit)) v n) ⌝ }
+    ensures { λ _. ⌜ take v (now (s .exit)) ≡ take v (now (s .entry)) ⌝ }
+{
+    if v == 0 {
+        return 0;
+    }
+    if MANY < v {
+        return 0;
+    }
+    if bins::run_end(s, 0, v, LOWEST, 52) < v {
+        return 0;
+    }
+    panako_judging::count_few(s, v, 2 * v)
+}
+
+// The best candidate by the first v words, which are votes of one recording: their n bins stand from word 2 * v on.
+fn best_of_few(s: &[i64], v: usize, n: usize, refs: &[u32], q: PanakoQuery) -> Best
+    requires { ⌜ Limits (now refs) q × Alike (now s) v n × Known (now refs) (getD (now s) 0 (pos 0)) × (v ≤ 1000000) ⌝ }
+    ensures { λ r. ⌜ bestSoFar r ≡ bestIn q (now (refs .entry)) (take v (now (s .entry))) ⌝ }
+{
+    let id = bins::lead_at(s, 0, LOWEST, 52);
+    let rate = rows::row_word(refs, id as usize, 0);
+    candidates::keep(
+        Best::Nothing,
+        id as u32,
+        panako_judging::judge_binned(s, v, 2 * v, n, q, rate),
+    )
+}
+
 // The best candidate by the votes of the query's hashes, which are gathered and sorted in the scratch. `starts` and `ends` say where the
 // postings of each hash begin and end, `g` is the scale grid; `which` is written over.
 fn best_candidate(
@@ -60,6 +97,10 @@ fn best_candidate(
     ensures { λ r. ⌜ bestSoFar r ≡ bestIn q (now (refs .entry)) (wordsIn q (now (refs .entry)) (now (posts .entry)) (now (hashes .entry))) ⌝ }
 {
     let v = panako_voting::gather(s, posts, p, hashes, q.q_len, starts, ends, which, g);
+    let n = few_bins(s, v);
+    if 0 < n {
+        return best_of_few(s, v, n, refs, q);
+    }
     sorting::sort_words(s, v);
     best_of(s, v, refs, q)
 }

@@ -1,24 +1,29 @@
 -- What the proof of `scale_bin` cites, and the bound of a scale bin: x held to 0 .. t, for a whole number t of 32 bits. Assumes nothing.
-use mathlib.Core.Path.{_≡_, refl, sym, subst}
+use mathlib.Core.Path.{_≡_, refl, sym, ap, _∙_, subst}
 use mathlib.Core.Bool.{Bool, true, false, cond, true≢false, false≢true}
-use Prim.Native.Nat.{ℕ, _*_, _/_, _^_, _≤_, _<_, min, zero-le}
-use native.Mathlib.Nat.{le-trans, le-of-eq, le-of-lt, lt-of-le-of-lt, lt-of-lt-of-le, zero-mul, mul-one, mul-comm, mul-lt-mul-of-pos-right, div-le-of-le-mul, zero-div}
+use Prim.Native.Nat.{ℕ, _-_, _*_, _/_, _^_, _≤_, _<_, min, zero-le}
+use native.Mathlib.Nat.{min-le-left, le-trans, le-of-eq, le-of-lt, lt-of-le-of-lt, lt-of-lt-of-le, zero-mul, mul-one, mul-comm, mul-lt-mul-of-pos-right, div-le-of-le-mul, zero-div}
 use native.Mathlib.Omega.{arith}
-use lib.Dec.{T, lt→ltb, le→leb, lit≤}
+use lib.IntN.{pos}
+use lib.Dec.{T, lt→ltb, lit≤}
 use borrow.Author.Tests.{ltb-true, ltb-false, le-ltb}
-use lib.Ieee.{Float, nan, inf, fin, binary64, up, down, lt, inFloat, toUnsigned, isNan}
+use lib.Ieee.{Float, nan, inf, fin, binary64, up, down, lt, le, toUnsigned, isNan}
 use lib.Ieee.Fits.{down-pos}
 use lib.Ieee.Exact.{HasValue}
-use lib.Ieee.Back.{unsigned-back}
-use lib.Ieee.Positive.{num, den, positive, den-pos, own-value, first-pos, through}
+use lib.Ieee.Positive.{num, den, positive, first-pos, through}
 use Rattle.floats.specs.Selection.{zero}
-use Rattle.floats.proofs.Exactly.{Cut, cut-of-value}
 use Rattle.lists.proofs.Tests.{test}
 use Rattle.floats.proofs.Order.{lt-asymmetric, lt-transitive}
+use Rattle.floats.proofs.Whole.{whole-value}
 use Rattle.panako_vote.specs.Grids.{whole, binAt}
-use Rattle.panako_vote.proofs.Sizes.{whole-value}
 
--- ---- a value y that equals t
+-- ---- a whole number t, and a value y that equals it
+
+pub in-format : (t : ℕ) → t < 2 ^ 32 → t ≤ 2 ^ 53
+in-format t few = le-trans (le-of-lt few) (lit≤ tt)
+
+pub whole-is : (t : ℕ) → t < 2 ^ 32 → HasValue (whole t) false t 1
+whole-is t few = whole-value binary64 t (in-format t few)
 
 is-number : (y : Float) (t : ℕ) → HasValue y false t 1 → isNan y ≡ false
 unfolding isNan
@@ -62,59 +67,75 @@ none (fin false m e) h = go (lt (fin false m e) zero)
     go true = refl
     go false = rw (empty, zero-div (down e))
 
--- the width of the cast
-same-cut : (x : Float) → T (positive x) → num x / den x < 2 ^ 32 → toUnsigned 64 x ≡ toUnsigned 32 x
+-- `at_least_zero` and `clamp` differ at a NaN and at -0, and both are cut to 0
+either-way : (z : Float) → toUnsigned 32 (cond (lt zero z) z zero) ≡ toUnsigned 32 (cond (lt z zero) zero z)
 unfolding toUnsigned
-same-cut (fin false m e) p h = capped (m * up e / down e) h
+either-way z = test (lt zero z) (λ h. rw (h, lt-asymmetric zero z h)) (λ h. rw h (sym (none z h)))
+
+-- ---- x held to 0 .. t
+
+-- what `small_whole_part` asks of y, and that its width is no matter
+record Held (t : ℕ) (y : Float) : Type 0 where
+  low : T (le zero y)
+  high : T (lt y (fin false 1 (pos 51)))
+  most : toUnsigned 64 y ≤ t
+  same : toUnsigned 64 y ≡ toUnsigned 32 y
+
+held-zero : (t : ℕ) → Held t zero
+unfolding le lt toUnsigned
+held-zero t = record { low = tt; high = tt; most = zero-le; same = refl }
+
+held-positive : (t : ℕ) (y : Float) → t < 2 ^ 32 → lt zero y ≡ true → T (positive y) → num y ≤ t * den y → Held t y
+unfolding le lt toUnsigned
+held-positive t (fin false m e) few g p h =
+    let q = div-le-of-le-mul (down e) (le-trans h (le-of-eq (mul-comm t (down e)))) in
+    record {
+      low = rw g tt;
+      high = lt→ltb (m * up e * 1) (1 * 2 ^ 51 * down e) (room (m * up e) (down e) (t * down e) h (mul-lt-mul-of-pos-right few (down-pos e)));
+      most = le-trans (min-le-left (m * up e / down e) (2 ^ 64 - 1)) q;
+      same = capped (m * up e / down e) (lt-of-le-of-lt q few);
+    }
   where
-    capped : (q : ℕ) → q < 4294967296 → min q 18446744073709551615 ≡ min q 4294967295
+    room : (a d b : ℕ) → a ≤ b → b < 2 ^ 32 * d → a * 1 < 1 * 2 ^ 51 * d
+    room a d b h g = omega arith
+
+    capped : (q : ℕ) → q < 2 ^ 32 → min q 18446744073709551615 ≡ min q 4294967295
     capped q h = omega arith
 
-pub in-format : (t : ℕ) → t < 2 ^ 32 → t ≤ 2 ^ 53
-in-format t few = le-trans (le-of-lt few) (lit≤ tt)
+irreflexive : (y : Float) → lt y y ≡ false
+irreflexive y = test (lt y y) (λ h. lt-asymmetric y y h) (λ h. h)
 
-pub whole-is : (t : ℕ) → t < 2 ^ 32 → HasValue (whole t) false t 1
-whole-is t few = whole-value binary64 t (in-format t few)
+-- z is x where it isn't above t, and else t; y is z where it is above 0, and else 0
+module _ (x : Float) (t : ℕ) (few : t < 2 ^ 32) (z : Float) (Z : z ≡ cond (lt (whole t) x) (whole t) x) (y : Float) (Y : y ≡ cond (lt zero z) z zero) where
+  not-above : lt (whole t) z ≡ false
+  not-above = subst (λ (w : Float). lt (whole t) w ≡ false) (sym Z) (test (lt (whole t) x) (λ h. rw h (irreflexive (whole t))) (λ h. rw h h))
 
-module _ (x : Float) (t : ℕ) (few : t < 2 ^ 32) where
-  whole-back : toUnsigned 32 (whole t) ≡ t
-  unfolding inFloat
-  whole-back = unsigned-back binary64 32 t (le→leb t (2 ^ 53) (in-format t few)) few .1
+  held : Held t y
+  held =
+      subst (Held t) (sym Y)
+      (test (lt zero z) (λ g. let p = under (whole t) z t (whole-is t few) g not-above in rw g (held-positive t z few g (p .0) (p .1))) (λ g. rw g (held-zero t)))
 
-  pub above : lt (whole t) x ≡ true → t ≡ binAt x t
+  clamped : binAt x t ≡ toUnsigned 32 (cond (lt z zero) zero z)
   unfolding binAt
-  above h =
-      rw (lt-transitive zero (whole t) x (is-number (whole t) t (whole-is t few)) (not-negative (whole t) t (whole-is t few)) (lt-asymmetric (whole t) x h), h)
-      (sym whole-back)
+  clamped =
+      rw Z
+      (test (lt (whole t) x)
+      (λ h.
+      rw (
+        h,
+        lt-transitive zero (whole t) x (is-number (whole t) t (whole-is t few)) (not-negative (whole t) t (whole-is t few)) (lt-asymmetric (whole t) x h),
+        not-negative (whole t) t (whole-is t few),
+      ))
+      (λ h. rw h))
 
-  module _ (h : lt (whole t) x ≡ false) where
-    pub not-positive : lt zero x ≡ false → 0 ≡ binAt x t
-    unfolding binAt
-    not-positive g = rw h (sym (none x g))
+  pub held-low : T (le zero y) × T (lt y (fin false 1 (pos 51)))
+  held-low = (held .low, held .high)
 
-    module _ (g : lt zero x ≡ true) where
-      quotient : T (positive x) × (num x / den x ≤ t) × Cut x (num x / den x)
-      quotient =
-          let p = under (whole t) x t (whole-is t few) g h in (
-            p .0,
-            div-le-of-le-mul (den x) (le-trans (p .1) (le-of-eq (mul-comm t (den x)))),
-            cut-of-value x (num x) (den x) (den-pos x) (own-value x (p .0)) (lt-of-le-of-lt (p .1) (mul-lt-mul-of-pos-right (lt-of-lt-of-le few (lit≤ tt)) (den-pos x))),
-          )
+  pub held-cut : (toUnsigned 64 y ≤ t) × (toUnsigned 64 y ≡ binAt x t)
+  held-cut = (held .most, held .same ∙ ap (toUnsigned 32) Y ∙ either-way z ∙ sym clamped)
 
-      -- what `truncating_f64_to_u64` asks, and what it gives
-      pub cut : Cut x (num x / den x)
-      cut = quotient .2
-
-      pub between : (toUnsigned 64 x ≤ t) × (toUnsigned 64 x ≡ binAt x t)
-      unfolding binAt
-      between =
-          let q = quotient in (
-            le-trans (le-of-eq (q .2 .2)) (q .1),
-            rw (lt-asymmetric zero x g, h) (same-cut x (q .0) (lt-of-le-of-lt (q .1) few)),
-          )
-
-  pub bin-le : binAt x t ≤ t
-  bin-le =
-      test (lt (whole t) x) (λ h. le-of-eq (sym (above h)))
-      (λ h. test (lt zero x) (λ g. subst (λ (u : ℕ). u ≤ t) (between h g .1) (between h g .0))
-      (λ g. subst (λ (u : ℕ). u ≤ t) (not-positive h g) zero-le))
+pub bin-le : (x : Float) (t : ℕ) → t < 2 ^ 32 → binAt x t ≤ t
+bin-le x t few =
+    let z = cond (lt (whole t) x) (whole t) x in
+    let c = held-cut x t few z refl (cond (lt zero z) z zero) refl in
+    le-trans (le-of-eq (sym (c .1))) (c .0)

@@ -3,22 +3,24 @@
 use mathlib.Core.Path.{_≡_, refl, sym, subst}
 use mathlib.Core.Bool.{Bool, true, false, _||_, cond, true≢false}
 use Prim.Native.Nat.{ℕ, zero, suc, _+_, _-_, _*_, _/_, _^_, _≤_, _<_, min, zero-le}
-use native.Mathlib.Nat.{le-trans, le-of-eq, le-of-lt, lt-of-lt-of-le, lt-of-le-of-lt, mul-one, div-lt-iff-lt-mul, min-le-left, sub-le, pos-of-ne-zero}
+use native.Mathlib.Nat.{le-trans, le-of-eq, le-of-lt, lt-of-lt-of-le, lt-of-le-of-lt, mul-one, min-le-left, sub-le, pos-of-ne-zero}
 use native.Mathlib.Omega.{arith}
 use lib.IntN.{ℤ, pos, negsuc, negℤ, _+ℤ_}
-use lib.Dec.{T, eqb, lit<, lit≤}
+use lib.Dec.{T, eqb, lt→ltb, lit<, lit≤}
 use borrow.Author.Tests.{ltb-false, eqb-false, le-ltb}
 use lib.Ieee.{Float, nan, inf, fin, binary64, up, down, lt, le, sub, mul, div}
 use lib.Ieee.Fits.{down-pos}
 use lib.Ieee.Positive.{through}
 use Rattle.floats.specs.Rounding.{halfUp, roundToI64}
+use Rattle.floats.proofs.Whole.{half-up-le}
 use Rattle.lists.proofs.Tests.{test}
 use Rattle.panako_vote.specs.Settings.{Accepted}
-use Rattle.panako_vote.specs.Grids.{whole, outside, gridOf, Limited}
-use Rattle.panako_vote.specs.Votes.{offsetAt, voteAt, span, scaleOf, voteOn, pairVote, InRange, Bounded}
+use Rattle.panako_vote.specs.Grids.{whole, outside, scaleBin, gridOf, Limited}
+use Rattle.panako_vote.specs.Votes.{offsetAt, noneIf, isVote, voteAt, span, scaleOf, voteOn, pairVote, InRange, Bounded}
 use Rattle.panako_vote.specs.declared.PanakoMatchConfig.{PanakoMatchConfig}
 use Rattle.panako_vote.specs.declared.ScaleGrid.{ScaleGrid}
 use Rattle.panako_vote.specs.declared.Vote.{Vote}
+use Rattle.panako_vote.specs.declared.Vote.the-variants.{At}
 use Rattle.panako_vote.proofs.Sizes.{Sized, sized-of-value, sized-sub, sized-mul, sized-div}
 use Rattle.panako_vote.proofs.Bins.{whole-is, bin-le}
 use Rattle.panako_vote.proofs.Limits.{at-most, limited}
@@ -52,18 +54,6 @@ scale-sized r q R Q N = sized-div binary64 32 false (whole r) (whole q) q (lit< 
 
 -- ---- the offset
 
-half-up-le : (a d K : ℕ) → 0 < d → a ≤ K * d → halfUp a d ≤ K
-half-up-le a d K D h = back (halfUp a d) K (div-lt-iff-lt-mul (twice d D) .1 (enough a d K D h))
-  where
-    twice : (d : ℕ) → 0 < d → 0 < 2 * d
-    twice d h = omega arith
-
-    enough : (a d K : ℕ) → 0 < d → a ≤ K * d → 2 * a + d < suc K * (2 * d)
-    enough a d K D h = omega arith
-
-    back : (x K : ℕ) → x < suc K → x ≤ K
-    back x K h = omega arith
-
 negated : (n : ℕ) → n ≤ 2 ^ 39 → InRange (negℤ (pos n))
 negated zero h = zero-le
 negated (suc n) h = h
@@ -75,10 +65,33 @@ rounded (fin false m e) (true, h) = absurd (true≢false (sym (h .0)))
 rounded (fin true m e) (true, h) = negated (min (halfUp (m * up e) (down e)) (2 ^ 63)) (le-trans (min-le-left (halfUp (m * up e) (down e)) (2 ^ 63)) (half-up-le (m * up e) (down e) (2 ^ 39) (down-pos e) (h .1)))
 rounded (fin false m e) (false, h) = le-trans (min-le-left (halfUp (m * up e) (down e)) (2 ^ 63 - 1)) (half-up-le (m * up e) (down e) (2 ^ 32) (down-pos e) (h .1))
 
+-- the offset before it is rounded
+abbrev offset : Float → ℕ → ℕ → Float
+offset x q r = sub binary64 (whole r) (mul binary64 x (whole q))
+
+offset-sized : (x : Float) (q r : ℕ) → Sized false 7 x → q < 2 ^ 32 → r < 2 ^ 32 → (s : Bool) × Sized s (cond s 39 32) (offset x q r)
+offset-sized x q r X Q R =
+    sized-sub binary64 32 39 (whole r) (mul binary64 x (whole q)) (lit< tt) (lit< tt) (whole-sized r R) (sized-mul binary64 7 32 false false x (whole q) (lit< tt) X (whole-sized q Q))
+
 offset-in-range : (x : Float) (q r : ℕ) → Sized false 7 x → q < 2 ^ 32 → r < 2 ^ 32 → InRange (offsetAt x q r)
-offset-in-range x q r X Q R =
-    rounded (sub binary64 (whole r) (mul binary64 x (whole q)))
-    (sized-sub binary64 32 39 (whole r) (mul binary64 x (whole q)) (lit< tt) (lit< tt) (whole-sized r R) (sized-mul binary64 7 32 false false x (whole q) (lit< tt) X (whole-sized q Q)))
+offset-in-range x q r X Q R = rounded (offset x q r) (offset-sized x q r X Q R)
+
+-- so it is one that `round_small_to_i64` takes
+abbrev Inside : Float → Type 0
+Inside x = T (lt (fin true 1 (pos 51)) x) × T (lt x (fin false 1 (pos 51)))
+
+inside : (x : Float) → (s : Bool) × Sized s (cond s 39 32) x → Inside x
+unfolding lt
+inside (fin true m e) (false, h) = absurd (true≢false (h .0))
+inside (fin false m e) (true, h) = absurd (true≢false (sym (h .0)))
+inside (fin true m e) (true, h) = (
+  lt→ltb (m * up e * 1) (1 * 2 ^ 51 * down e) (omega (arith, h .1, down-pos e)),
+  lt→ltb 0 (m * up e * 1 + 1 * 2 ^ 51 * down e) (omega (arith, down-pos e)),
+)
+inside (fin false m e) (false, h) = (
+  lt→ltb 0 (1 * 2 ^ 51 * down e + m * up e * 1) (omega (arith, down-pos e)),
+  lt→ltb (m * up e * 1) (1 * 2 ^ 51 * down e) (omega (arith, h .1, down-pos e)),
+)
 
 -- ---- the vote
 
@@ -86,22 +99,44 @@ either : (a b : Bool) → (a || b) ≡ false → b ≡ false
 either true b h = absurd (true≢false h)
 either false b h = h
 
+-- a scale with a vote
+voting : (g : ScaleGrid) → Limited g → (x : Float) → Sized false 32 x → outside g x ≡ false → Sized false 7 x
+voting g L x X h = not-above 32 7 (g .high) x (L .high) X (either (lt x (g .low)) (lt (g .high) x) h)
+
 at-bounded : (g : ScaleGrid) → Limited g → (x : Float) (q r : ℕ) → Sized false 32 x → q < 2 ^ 32 → r < 2 ^ 32 → Bounded (g .«last_bin») (voteAt g x q r)
 unfolding voteAt
 at-bounded g L x q r X Q R =
     test (outside g x) (λ h. rw h tt)
     (λ h. rw h (
       bin-le (div binary64 (sub binary64 x (g .«scale_min»)) (g .«scale_per_bin»)) (g .«last_bin») (lt-of-lt-of-le (L .last) (lit≤ tt)),
-      offset-in-range x q r (not-above 32 7 (g .high) x (L .high) X (either (lt x (g .low)) (lt (g .high) x) h)) Q R,
+      offset-in-range x q r (voting g L x X h) Q R,
     ))
 
-pub vote-bounded : (g : ScaleGrid) → Limited g → (qa qc ra rc : ℕ) → qa < 2 ^ 32 → qc < 2 ^ 32 → ra < 2 ^ 32 → rc < 2 ^ 32 → Bounded (g .«last_bin») (voteOn g qa qc ra rc)
-unfolding voteOn
-vote-bounded g L qa qc ra rc QA QC RA RC =
-    test (eqb (span qa qc) 0) (λ h. rw h tt)
-    (λ h. test (eqb (span ra rc) 0) (λ k. rw (h, k) tt)
-    (λ k. rw (h, k) (at-bounded g L (scaleOf (span ra rc) (span qa qc)) qa ra
-    (scale-sized (span ra rc) (span qa qc) (lt-of-le-of-lt (sub-le rc ra) RC) (lt-of-le-of-lt (sub-le qc qa) QC) (pos-of-ne-zero (eqb-false (span qa qc) 0 h))) QA RA)))
+module _ (g : ScaleGrid) (L : Limited g) (qa qc ra rc : ℕ) (QA : qa < 2 ^ 32) (QC : qc < 2 ^ 32) (RA : ra < 2 ^ 32) (RC : rc < 2 ^ 32) where
+  some-span : eqb (span qa qc) 0 ≡ false → Sized false 32 (scaleOf (span ra rc) (span qa qc))
+  some-span h = scale-sized (span ra rc) (span qa qc) (lt-of-le-of-lt (sub-le rc ra) RC) (lt-of-le-of-lt (sub-le qc qa) QC) (pos-of-ne-zero (eqb-false (span qa qc) 0 h))
+
+  pub vote-bounded : Bounded (g .«last_bin») (voteOn g qa qc ra rc)
+  unfolding voteOn
+  vote-bounded =
+      test (eqb (span qa qc) 0) (λ h. rw h tt)
+      (λ h. test (eqb (span ra rc) 0) (λ k. rw (h, k) tt)
+      (λ k. rw (h, k) (at-bounded g L (scaleOf (span ra rc) (span qa qc)) qa ra (some-span h) QA RA)))
+
+  -- what `pair_vote` asks of the offset before it is rounded, x being the scale
+  pub offset-inside : (x : Float) → x ≡ scaleOf (span ra rc) (span qa qc) → isVote (voteOn g qa qc ra rc) ≡ true → Inside (offset x qa ra)
+  unfolding voteOn voteAt
+  offset-inside x e v =
+      let t = tests (At (scaleBin g (scaleOf (span ra rc) (span qa qc))) (offsetAt (scaleOf (span ra rc) (span qa qc)) qa ra)) (eqb (span qa qc) 0) (eqb (span ra rc) 0) (outside g (scaleOf (span ra rc) (span qa qc))) v in
+      subst (λ (z : Float). Inside (offset z qa ra)) (sym e)
+      (inside (offset (scaleOf (span ra rc) (span qa qc)) qa ra)
+      (offset-sized (scaleOf (span ra rc) (span qa qc)) qa ra (voting g L (scaleOf (span ra rc) (span qa qc)) (some-span (t .0)) (t .1)) QA RA))
+    where
+      tests : (v : Vote) (a b o : Bool) → isVote (noneIf (a || b) (noneIf o v)) ≡ true → (a ≡ false) × (o ≡ false)
+      tests v true b o h = absurd (true≢false (sym h))
+      tests v false true o h = absurd (true≢false (sym h))
+      tests v false false true h = absurd (true≢false (sym h))
+      tests v false false false h = (refl, refl)
 
 pub pair-bounded : (cfg : PanakoMatchConfig) → Accepted cfg → (qa qc ra rc : ℕ) → qa < 2 ^ 32 → qc < 2 ^ 32 → ra < 2 ^ 32 → rc < 2 ^ 32 → Bounded (cfg .«scale_bins» - 1) (pairVote cfg qa qc ra rc)
 unfolding gridOf

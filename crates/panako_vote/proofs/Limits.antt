@@ -13,12 +13,13 @@ use Rattle.floats.specs.Selection.{abs}
 use Rattle.floats.proofs.Numbers.{yes}
 use Rattle.lists.proofs.Tests.{test}
 use Rattle.floats.proofs.Order.{le-of-not-lt}
+use Rattle.floats.proofs.Whole.{whole-value}
 use Rattle.matching.specs.Scales.{half, perBin}
 use Rattle.panako_vote.specs.Settings.{binsOf, normalised, sixtyFour, withinLimits, Accepted}
 use Rattle.panako_vote.specs.Grids.{whole, per, gridOf, Limited}
 use Rattle.panako_vote.specs.declared.PanakoMatchConfig.{PanakoMatchConfig}
 use Rattle.panako_vote.specs.declared.ScaleGrid.{ScaleGrid}
-use Rattle.panako_vote.proofs.Sizes.{Small, whole-value, small-add, small-sub, small-half, small-div}
+use Rattle.panako_vote.proofs.Sizes.{Small, small-add, small-sub, small-half, small-div}
 
 -- ---- a comparison with a power of two
 

@@ -7,17 +7,16 @@ use mathlib.Core.Bool.{Bool, true, false, _&&_, cond, Bool·beq, true≢false}
 use Prim.Native.Nat.{ℕ, zero, suc, _+_, _-_, _*_, _^_, _≤_, _<_, zero-le}
 use native.Mathlib.Nat.{le-trans, le-of-eq, le-of-lt, lt-of-le-of-lt, lt-irrefl, le-refl, zero-lt-suc, one-mul, mul-one, zero-mul, mul-comm, mul-assoc, mul-right-comm, mul-mul-mul-comm, mul-pos, mul-le-mul, mul-le-mul-right, mul-lt-mul-of-pos-right, le-of-mul-le-mul-right, pow-suc, sub-le, eq-or-lt-of-le}
 use native.Mathlib.Omega.{arith}
-use lib.IntN.{ℤ, pos}
+use lib.IntN.{ℤ}
 use lib.Dec.{ltb, lit≤}
 use lib.Pow.{pow-add, pow-pos, pow-lt}
 use borrow.Author.Tests.{ne-eqb}
-use lib.Ieee.{Float, nan, inf, fin, Format, binary32, binary64, prec, emax, low, up, down, unlike, round, sum, add, sub, mul, div, neg, ofInt}
+use lib.Ieee.{Float, nan, inf, fin, Format, binary32, binary64, prec, emax, low, up, down, unlike, round, sum, add, sub, mul, div, neg}
 use lib.Ieee.Fits.{up-pos, down-pos, round-is}
 use lib.Ieee.Exact.{HasValue, units-val}
 use lib.Ieee.Order.{drop, kept, round-mono}
 use lib.Ieee.Scale.{grid, overflow}
 use lib.Ieee.Positive.{positive-of-value, values-of-le}
-use lib.Ieee.Back.{round-whole}
 use Rattle.floats.proofs.Exactly.{grid-under}
 use Rattle.floats.proofs.Round.{exact-at}
 use Rattle.matching.specs.Scales.{half}
@@ -99,12 +98,6 @@ module _ (f : Format) (a c k : ℕ) (C : 0 < c) (K : k < emax f) (h : a ≤ 2 ^ 
 
   small-round : (s : Bool) → Small k (round f s a c)
   small-round s = small s k (round f s a c) (sized-round s)
-
--- ---- whole numbers
-
-pub whole-value : (f : Format) (n : ℕ) → n ≤ 2 ^ prec f → HasValue (ofInt f (pos n)) false n 1
-unfolding ofInt
-whole-value f n h = round-whole f false n h
 
 pub sized-of-value : (k : ℕ) (x : Float) (n : ℕ) → HasValue x false n 1 → n ≤ 2 ^ k → Sized false k x
 sized-of-value k (fin t m e) n v h = (v .0, le-trans (le-of-eq (sym (mul-one (m * up e)) ∙ v .1)) (mul-le-mul-right (down e) h))

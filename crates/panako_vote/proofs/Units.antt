@@ -2,15 +2,15 @@
 use mathlib.Core.Path.{_≡_, refl, sym, ap, ap₂, _∙_, subst}
 use mathlib.Core.Bool.{Bool, true, false, not, _&&_, cond, true≢false}
 use Prim.Native.Nat.{ℕ, zero, suc, _+_, _-_, _*_, _/_, _^_, _<_, min, zero-le}
-use native.Mathlib.Nat.{lt-of-le-of-lt, zero-lt-suc, one-mul, mul-one, mul-comm, mul-assoc, mul-pos, mul-le-mul-right, mul-lt-mul-of-pos-right, sub-le, mul-sub, lt-of-lt-of-le}
+use native.Mathlib.Nat.{lt-of-le-of-lt, zero-lt-suc, one-mul, mul-one, mul-comm, mul-pos, sub-le, lt-of-lt-of-le}
 use native.Mathlib.Omega.{arith}
 use lib.IntN.{pos, negℤ, _-ℤ_}
 use lib.Dec.{T, eqb, ltb, ltb→lt, lit≤}
 use mir.Syntax.{w64}
 use mir.Val.{SFits, toZ, ofZ}
 use mir.ValLaws.{toZ-pos, toZ-ofZ}
-use borrow.Author.Tests.{ltb-true, ltb-false, eqb-true, ne-eqb, lt-ltb, le-ltb}
-use lib.Ieee.{Float, fin, binary64, up, down, round, sum, add, sub, mul, div, neg, ofInt}
+use borrow.Author.Tests.{ltb-true, eqb-true, ne-eqb, le-ltb}
+use lib.Ieee.{Float, fin, binary64, up, down, round, sub, mul, div, ofInt}
 use lib.Ieee.Fits.{up-pos, down-pos}
 use lib.Ieee.Exact.{HasValue}
 use lib.Ieee.Scale.{round-same}
@@ -19,6 +19,7 @@ use lib.Ieee.Positive.{positive, positive-of-value}
 use lib.Ieee.Back.{round-whole}
 use Rattle.floats.specs.Rounding.{halfUp, roundToI64}
 use Rattle.floats.specs.Selection.{one}
+use Rattle.floats.proofs.Whole.{apart, difference}
 use Rattle.lists.proofs.Tests.{test, and-left, and-right}
 use Rattle.panako_vote.specs.Grids.{whole, outside, scaleBin, Limited}
 use Rattle.panako_vote.specs.Votes.{offsetAt, noneIf, voteAt, span, scaleOf, voteOn}
@@ -55,35 +56,6 @@ times-one (fin false m e) n v =
   where
     tidy : (x n d : ℕ) → x * 1 ≡ n * d → 1 * 1 * x * 1 ≡ n * (1 * d)
     tidy x n d h = ap (λ (z : ℕ). z * 1) (one-mul x) ∙ h ∙ ap (λ (z : ℕ). n * z) (sym (one-mul d))
-
--- ±r / 1 for the fraction a / c of the same size
-whole-round : (s : Bool) (a c r : ℕ) → 0 < c → a ≡ r * c → round binary64 s a c ≡ round binary64 s r 1
-whole-round s a c r C h = round-same binary64 s a c r 1 C (zero-lt-suc 0) (mul-one a ∙ h)
-
--- r - q, with its sign
-abbrev apart : ℕ → ℕ → Float
-apart r q = cond (ltb r q) (round binary64 true (q - r) 1) (round binary64 false (r - q) 1)
-
-by-parts : (r q a b c : ℕ) → 0 < c → a ≡ r * c → b ≡ q * c → cond (ltb a b) (round binary64 true (b - a) c) (round binary64 false (a - b) c) ≡ apart r q
-by-parts r q a b c C A B =
-    test (ltb r q)
-    (λ h. rw (h, lt-ltb a b (omega (arith, mul-lt-mul-of-pos-right (ltb-true r q h) C))) (whole-round true (b - a) c (q - r) C (less q r c b a B A)))
-    (λ h. rw (h, le-ltb a b (omega (arith, mul-le-mul-right c (ltb-false r q h)))) (whole-round false (a - b) c (r - q) C (less r q c a b A B)))
-  where
-    less : (x y c a b : ℕ) → a ≡ x * c → b ≡ y * c → a - b ≡ (x - y) * c
-    less x y c a b A B = rw (A, B) (sym (mul-comm (x - y) c ∙ mul-sub c x y ∙ ap (λ (z : ℕ). z - c * y) (mul-comm c x) ∙ ap (λ (z : ℕ). x * c - z) (mul-comm c y)))
-
-difference : (x y : Float) (r q : ℕ) → HasValue x false r 1 → HasValue y false q 1 → sub binary64 x y ≡ apart r q
-unfolding sub add neg sum
-difference (fin true m e) y r q v w = absurd (true≢false (v .0))
-difference (fin false m e) (fin true n d) r q v w = absurd (true≢false (w .0))
-difference (fin false m e) (fin false n d) r q v w =
-    by-parts r q (m * up e * down d) (n * up d * down e) (down e * down d) (mul-pos (down-pos e) (down-pos d))
-    (common (m * up e) r (down e) (down d) (v .1))
-    (common (n * up d) q (down d) (down e) (w .1) ∙ ap (λ (z : ℕ). q * z) (mul-comm (down d) (down e)))
-  where
-    common : (x r d c : ℕ) → x * 1 ≡ r * d → x * c ≡ r * (d * c)
-    common x r d c h = ap (λ (z : ℕ). z * c) (sym (mul-one x) ∙ h) ∙ mul-assoc r d c
 
 -- n / 1 is rounded to n
 half-whole : (a d n : ℕ) → 0 < d → a * 1 ≡ n * d → halfUp a d ≡ n
@@ -125,7 +97,7 @@ module _ (r q : ℕ) (R : r < 2 ^ 32) (Q : q < 2 ^ 32) where
   small : (a b : ℕ) → a < 2 ^ 32 → a - b < 2 ^ 32
   small a b h = lt-of-le-of-lt (sub-le a b) h
 
-  apart-rounded : roundToI64 (apart r q) ≡ cond (ltb r q) (negℤ (pos (q - r))) (pos (r - q))
+  apart-rounded : roundToI64 (apart binary64 r q) ≡ cond (ltb r q) (negℤ (pos (q - r))) (pos (r - q))
   apart-rounded =
       test (ltb r q)
       (λ h. rw h (rounded true (round binary64 true (q - r) 1) (q - r) (round-whole binary64 true (q - r) (in-format (q - r) (small q r Q))) (small q r Q)))
@@ -134,7 +106,7 @@ module _ (r q : ℕ) (R : r < 2 ^ 32) (Q : q < 2 ^ 32) where
   offset-is : offsetAt one q r ≡ pos r -ℤ pos q
   offset-is =
       ap (λ (y : Float). roundToI64 (sub binary64 (whole r) y)) (times-one (whole q) q (whole-is q Q))
-      ∙ ap roundToI64 (difference (whole r) (whole q) r q (whole-is r R) (whole-is q Q))
+      ∙ ap roundToI64 (difference binary64 (whole r) (whole q) r q (whole-is r R) (whole-is q Q))
       ∙ apart-rounded
       ∙ signed r q
 

@@ -2,11 +2,13 @@
 // `normalize_config` of the reference's `panako.rs`, refusal 4, and the inner loop of
 // `PanakoIndex::query`.
 ghost use mathlib.Core.Path.{_≡_};
-ghost use mathlib.Core.Bool.{not, _&&_};
+ghost use mathlib.Core.Bool.{not, _&&_, cond};
 ghost use Prim.Native.Nat.{_-_};
 ghost use lib.IntN.{pos, _-ℤ_};
 ghost use lib.Dec.{eqb, ltb};
+ghost use lib.Ieee.{lt};
 ghost use lib.Ieee.Scale.{finite};
+ghost use Rattle.floats.specs.Selection.{zero};
 ghost use Rattle.panako_vote.specs.Settings.{ascending, binsOf, normalised, withinLimits, Accepted};
 ghost use Rattle.panako_vote.specs.Grids.{binAt, gridOf, Limited};
 ghost use Rattle.panako_vote.specs.Votes.{span, scaleOf, noneIf, voteOn, isVote, Bounded, checkedVote};
@@ -74,17 +76,25 @@ fn saturating_sub(a: u32, b: u32) -> u32
     if b <= a { a - b } else { 0 }
 }
 
-// Rust's `x.clamp(0.0, last as f64) as u32`.
+// x, and y where x lies above y.
+fn at_most(x: f64, y: f64) -> f64
+    ensures { λ r. ⌜ r ≡ cond (lt y x) y x ⌝ }
+{
+    if x > y { y } else { x }
+}
+
+// x where it lies above 0, and else 0.
+fn at_least_zero(x: f64) -> f64
+    ensures { λ r. ⌜ r ≡ cond (lt zero x) x zero ⌝ }
+{
+    if x > 0.0 { x } else { 0.0 }
+}
+
+// Rust's `x.clamp(0.0, last as f64) as u32`, with no branch.
 pub fn scale_bin(x: f64, last: u32) -> u32
     ensures { λ r. ⌜ r ≡ binAt x last ⌝ }
 {
-    if x > (last as f64) {
-        return last;
-    }
-    if x > 0.0 {
-        return std::num::truncating_f64_to_u64(x) as u32;
-    }
-    0
+    floats::small_whole_part(at_least_zero(at_most(x, last as f64))) as u32
 }
 
 // The scale grid: what is worked out once for all pairs of a query.
@@ -182,7 +192,7 @@ pub fn pair_vote(g: ScaleGrid, q_anchor: u32, q_end: u32, r_anchor: u32, r_end: 
         let s = pair_scale(q_anchor, q_end, r_anchor, r_end);
         let b = (r_anchor as f64) - s * (q_anchor as f64);
         let bin = scale_bin((s - g.scale_min) / g.scale_per_bin, g.last_bin);
-        let offset = floats::round_to_i64(b);
+        let offset = floats::round_small_to_i64(b);
         return Vote::At { bin, offset };
     }
     Vote::Nothing

@@ -1,20 +1,17 @@
 -- `panako_judging::judge` meets its contract. Assumes nothing.
 use mathlib.Core.Path.{_≡_, sym, ap, _∙_}
 use mathlib.Core.List.{List}
-use Prim.Native.Nat.{ℕ, _+_, _*_, _≤_}
+use Prim.Native.Nat.{ℕ, _+_, _-_, _*_, _≤_}
 use native.Mathlib.Omega.{arith}
-use lib.ListN.{length}
+use lib.ListN.{length, take, drop}
 use borrow.Author.Tests.{not-true, not-false}
 use Rattle.maps.proofs.Words.{outside-none}
-use Rattle.bins.specs.Codes.{codesIn}
-use Rattle.bins.proofs.Occupied.{occupied-some}
-use Rattle.bins.proofs.Binning.{codes-length}
 use Rattle.judging.specs.Gates.{admits}
 use Rattle.judging.specs.declared.Verdict.the-variants.{Barred}
 use Rattle.judging.proofs.Passing.{bar-entry, goes-on}
-use Rattle.panako_judging.specs.Judge.{Vote, panakoForm, askedOf, atPeak, resultOf}
+use Rattle.panako_judging.specs.Judge.{Vote, binsOf, binCount, askedOf, atPeak, resultOf}
 use Rattle.panako_judging.specs.Candidates.{votesIn}
-use Rattle.panako_judging.proofs.Words.{votes-length, bins-few, bins-outside, part-bins, weighed-part}
+use Rattle.panako_judging.proofs.Words.{votes-length, bins-good, bins-some, weighed-bins, bins-few, bins-number, bins-outside, part-is}
 use Rattle.panako_judging.proofs.Gates.{seen, judged-by}
 use borrow.Author.Needs.{needs}
 use Rattle.panako_judging.proofs.judge.Statement.{statement}
@@ -53,6 +50,16 @@ few : (b : tie.After-count-sorted) → b .count-sorted .result ≤ opened b .arg
 few b =
     let o = opened b in
     bins-few (o .args .s .now) (o .args .a) (o .args .g) (fits o) (o .args .at) (b .count-sorted .result) (b .count-sorted .last .0) (o .pre .group .room) (b .count-sorted .ensures .0) (b .count-sorted .ensures .1)
+
+number : (b : tie.After-count-sorted) → b .count-sorted .result ≡ binCount (votes (opened b))
+number b =
+    let o = opened b in
+    bins-number (o .args .s .now) (o .args .a) (o .args .g) (fits o) (o .args .at) (b .count-sorted .result) (b .count-sorted .last .0) (o .pre .group .room) (b .count-sorted .ensures .0) (b .count-sorted .ensures .1)
+
+part : (b : tie.After-count-sorted) → take (opened b .args .at + 3 * b .count-sorted .result - opened b .args .at) (drop (opened b .args .at) (b .count-sorted .last .0)) ≡ binsOf (votes (opened b))
+part b =
+    let o = opened b in
+    part-is (o .args .s .now) (o .args .a) (o .args .g) (fits o) (o .args .at) (b .count-sorted .result) (b .count-sorted .last .0) (o .pre .group .room) (b .count-sorted .ensures .0) (b .count-sorted .ensures .1)
 
 -- ---- the needs
 
@@ -101,8 +108,8 @@ weigh-requires c κs =
     let b = binned c in
     let o = opened b in
     let n = b .count-sorted in (
-      part-bins (o .args .s .now) (o .args .a) (o .args .g) (fits o) (o .args .at) (n .result) (n .last .0) (o .pre .group .room) (n .ensures .0) (n .ensures .1) (o .pre .few),
-      omega (arith, n .ensures .0, occupied-some (codesIn panakoForm (o .args .s .now) (o .args .a) (o .args .g)) (omega (arith, codes-length panakoForm (o .args .s .now) (o .args .a) (o .args .g) (fits o), o .pre .some))),
+      bins-good (o .args .s .now) (o .args .a) (o .args .g) (fits o) (n .result) _ (number b) (part b) (o .pre .few),
+      bins-some (o .args .s .now) (o .args .a) (o .args .g) (fits o) (n .result) _ (number b) (part b) (o .pre .some),
       o .pre .tolerance,
     )
 
@@ -120,7 +127,7 @@ returns-2 c =
     let n = b .count-sorted in (
       judged-by q (o .args .rate) (votes o) (f .result) (f .ensures) (c .weigh .result)
           (goes-on (askedOf q) (f .result) (length (votes o)) (atPeak w) (resultOf q (f .result) w) (sym (entry (e .before)) ∙ not-false _ (e .if1 .left)) (c .weigh .result)
-          (weighed-part (o .args .s .now) (o .args .a) (o .args .g) (fits o) (o .args .at) (n .result) (n .last .0) (o .pre .group .room) (n .ensures .0) (n .ensures .1) q (f .result) (c .weigh .result) (c .weigh .ensures))),
+          (weighed-bins (o .args .s .now) (o .args .a) (o .args .g) (fits o) (n .result) _ (number b) (part b) q (f .result) (c .weigh .result) (c .weigh .ensures))),
       bins-outside (o .args .s .now) (o .args .a) (o .args .g) (fits o) (o .args .at) (n .result) (n .last .0) (o .pre .group .room) (n .ensures .0) (n .ensures .1),
     )
 

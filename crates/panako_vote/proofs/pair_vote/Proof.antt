@@ -5,7 +5,7 @@ use mir.Syntax.{w64}
 use mir.ValLaws.{toZ-ofZ}
 use Rattle.panako_vote.proofs.Pairs.{votes, no-vote}
 use Rattle.panako_vote.proofs.Units.{unit-is}
-use Rattle.panako_vote.proofs.Bounds.{with-bounds}
+use Rattle.panako_vote.proofs.Bounds.{offset-inside, with-bounds}
 use Rattle.panako_vote.proofs.pair_vote.Statement.{statement}
 use Rattle.panako_vote.proofs.pair_vote.Tie as tie
 
@@ -38,8 +38,14 @@ int-to-float-b-2 c = search needs
 scale-bin-requires : tie.Need-scale-bin-requires
 scale-bin-requires c κs = search needs
 
-round-to-i64-requires : tie.Need-round-to-i64-requires
-round-to-i64-requires c κs = search needs
+round-small-to-i64-requires : tie.Need-round-small-to-i64-requires
+round-small-to-i64-requires c κs =
+    let p = c .before .before .before .before .before in
+    let t = p .before in
+    let o = t .before .before .before .before in
+    let a = o .args in
+    offset-inside (a .g) (o .pre) (a .q-anchor) (a .q-end) (a .r-anchor) (a .r-end) (search needs) (search needs) (search needs) (search needs)
+    (p .pair-scale .result) (p .pair-scale .ensures) (sym (t .before .has-vote .ensures) ∙ t .if2 .taken)
 
 returns-2 : tie.Need-returns-2
 returns-2 c =
@@ -47,7 +53,7 @@ returns-2 c =
     let t = p .before in
     let o = t .before .before .before .before in
     let a = o .args in
-    let offset = toZ-ofZ w64 (c .round-to-i64 .result) (record { sfits = c .round-to-i64 .ok }) ∙ c .round-to-i64 .ensures in
+    let offset = toZ-ofZ w64 (c .round-small-to-i64 .result) (record { sfits = c .round-small-to-i64 .ok }) ∙ c .round-small-to-i64 .ensures in
     with-bounds (a .g) (o .pre) _ (a .q-anchor) (a .q-end) (a .r-anchor) (a .r-end) (search needs) (search needs) (search needs) (search needs)
     (rw (c .before .scale-bin .ensures, offset, p .pair-scale .ensures) (votes (a .g) (a .q-anchor) (a .q-end) (a .r-anchor) (a .r-end) (sym (t .before .has-vote .ensures) ∙ t .if2 .taken)))
 
@@ -66,6 +72,6 @@ pair-vote-spec =
     int-to-float-b
     int-to-float-b-2
     scale-bin-requires
-    round-to-i64-requires
+    round-small-to-i64-requires
     returns-2
     returns-3)
