@@ -47,7 +47,7 @@ unfolding occupied
 occupied-ascend [] = tt
 occupied-ascend (k ∷ ks) = ascending-insertKey k (occupied ks) (occupied-ascend ks)
 
-occupied-member : (k : ℕ) (ks : List ℕ) → member k (occupied ks) ≡ ltb 0 (votesAt ks k)
+pub occupied-member : (k : ℕ) (ks : List ℕ) → member k (occupied ks) ≡ ltb 0 (votesAt ks k)
 unfolding occupied count some?
 occupied-member k [] = refl
 occupied-member k (x ∷ ks) =
@@ -68,17 +68,24 @@ occupied-voted ks = all-of-key (λ k. k) (λ k. 0 < votesAt ks k) (occupied ks) 
 pub occupied-all : (P : ℕ → Type 0) (ks : List ℕ) → All P ks → All P (occupied ks)
 occupied-all P ks h = all-of-key (λ k. k) P (occupied ks) (λ k m. key-of-all (λ k. k) P ks h k (sym (occupied-has k ks) ∙ m))
 
-length-insert : (k : ℕ) (l : List ℕ) → (0 < length (insertKey k l)) × (length (insertKey k l) ≤ suc (length l))
+length-insert : (k : ℕ) (l : List ℕ) → (0 < length (insertKey k l)) × (length (insertKey k l) ≤ suc (length l)) × (length l ≤ length (insertKey k l))
 unfolding insertKey
-length-insert k [] = (omega arith, omega arith)
+length-insert k [] = (omega arith, omega arith, omega arith)
 length-insert k (x ∷ xs) =
     let ih = length-insert k xs in
-    test (eqb x k) (λ e. rw e (omega arith, omega arith)) (λ e. test (ltb k x) (λ d. rw (e, d) (omega arith, omega arith)) (λ d. rw (e, d) (omega arith, omega (arith, ih .1))))
+    test (eqb x k) (λ e. rw e (omega arith, omega arith, omega arith))
+    (λ e. test (ltb k x) (λ d. rw (e, d) (omega arith, omega arith, omega arith)) (λ d. rw (e, d) (omega arith, omega (arith, ih .1), omega (arith, ih .2))))
 
 pub occupied-few : (ks : List ℕ) → length (occupied ks) ≤ length ks
 unfolding occupied
 occupied-few [] = omega arith
 occupied-few (k ∷ ks) = let ih = occupied-few ks in omega (arith, length-insert k (occupied ks) .1)
+
+-- more votes have no fewer codes
+pub occupied-more : (js ks : List ℕ) → length (occupied ks) ≤ length (occupied (js ++ ks))
+unfolding occupied
+occupied-more [] ks = omega arith
+occupied-more (j ∷ js) ks = let ih = occupied-more js ks in omega (arith, length-insert j (occupied (js ++ ks)) .2)
 
 pub occupied-some : (ks : List ℕ) → 0 < length ks → 0 < length (occupied ks)
 unfolding occupied
@@ -141,7 +148,7 @@ module _ (ks ls : List ℕ) (same : (p : ℕ → Bool) → count p ks ≡ count 
 
 -- ---- the words of the bins
 
-words-length : (f : Form) (middle k c : ℕ) → length (binWords f middle k c) ≡ width f
+pub words-length : (f : Form) (middle k c : ℕ) → length (binWords f middle k c) ≡ width f
 words-length f middle k c = test (f .scaled) (λ e. rw e refl) (λ e. rw e refl)
 
 pub bins-length : (f : Form) (middle : ℕ) (ks : List ℕ) → length (binsOf f middle ks) ≡ width f * length (occupied ks)

@@ -1,13 +1,14 @@
 -- The votes in the words of the scratch, and the part of it that holds their bins. Assumes nothing.
 use mathlib.Core.Path.{_≡_, refl, sym, ap, _∙_}
+use mathlib.Core.Bool.{true, cond}
 use mathlib.Core.List.{List, map}
 use Prim.Native.Nat.{ℕ, _+_, _-_, _*_, _^_, _≤_, _<_}
 use native.Mathlib.Omega.{arith}
-use native.Mathlib.Decide.{decLt}
 use lib.IntN.{ℤ}
 use lib.ListN.{length, take, drop, length-drop}
 use lib.Seq.{length-take-le}
 use lib.Ieee.{Float}
+use Rattle.lists.proofs.Tests.{test}
 use Rattle.lists.proofs.Keep.{all-of, map-map, map-same}
 use Rattle.maps.specs.Words.{SameOutside}
 use Rattle.maps.proofs.Words.{outside-none}
@@ -15,6 +16,7 @@ use Rattle.bins.specs.Codes.{codeIn, codesIn, occupied, binsOf, stored}
 use Rattle.bins.proofs.Stored.{stored-length, stored-before, stored-outside, stored-read}
 use Rattle.bins.proofs.Occupied.{occupied-few, occupied-some, bins-length}
 use Rattle.bins.proofs.Binning.{codes-length, codes-each}
+use Rattle.counting.specs.Tally.{isFew, counted}
 use Rattle.hough.specs.Limits.{Bins}
 use Rattle.judging.specs.declared.Verdict.{Verdict}
 use Rattle.judging.proofs.Passing.{Weighed}
@@ -89,14 +91,15 @@ module _ (s : List ℤ) (a g : ℕ) (fits : a + g ≤ length s) where
         )
 
 -- what `count_few` says of the first g votes, whether it counted them or not
-pub few-counted : (s l : List ℤ) (g at n : ℕ) → g ≤ at → at + 3 * g ≤ length s
-    → (0 < n → (n ≡ length (occupied (codesIn panakoForm s 0 g))) × (l ≡ stored s at (binsOf panakoForm middle (codesIn panakoForm s 0 g))))
-    → (n ≡ 0 → l ≡ s) → (0 < n → Binned l g at n) × (take g l ≡ take g s)
-few-counted s l g at n before room told same = (λ h. binned h .1, go (decLt 0 n))
-  where
-    binned : 0 < n → (take g l ≡ take g s) × Binned l g at n
-    binned h = few-binned s 0 g (omega arith) at n l room (told h .0) (told h .1) refl before
+module _ (s l : List ℤ) (g at n : ℕ) (before : g ≤ at) (room : at + 3 * g ≤ length s) (told : n ≡ counted (length (occupied (codesIn panakoForm s 0 g))))
+    (left : l ≡ cond (isFew (length (occupied (codesIn panakoForm s 0 g)))) (stored s at (binsOf panakoForm middle (codesIn panakoForm s 0 g))) s) where
+  binned : isFew (length (occupied (codesIn panakoForm s 0 g))) ≡ true → (take g l ≡ take g s) × Binned l g at n
+  binned t = few-binned s 0 g (omega arith) at n l room (rw t at told) (rw t at left) refl before
 
-    go : Dec (0 < n) → take g l ≡ take g s
-    go (yes h) = binned h .0
-    go (no h) = ap (take g) (same (omega arith))
+  pub few-number : n ≡ counted (binCount (votesIn s 0 g))
+  few-number = told ∙ ap (λ (ks : List ℕ). counted (length (occupied ks))) (sym (codes-are s 0 g (omega arith)))
+
+  pub few-counted : (0 < n → Binned l g at n) × (take g l ≡ take g s)
+  few-counted = test (isFew (length (occupied (codesIn panakoForm s 0 g))))
+      (λ t. (λ h. binned t .1, binned t .0))
+      (λ f. let z : n ≡ 0 = told ∙ rw f refl in let e : l ≡ s = rw f at left in (λ h. absurd (omega arith), ap (take g) e))

@@ -6,10 +6,11 @@ ghost use lib.IntN.{pos, natAbs, _+ℤ_, _-ℤ_};
 ghost use lib.ListN.{length, set, take};
 ghost use Rattle.maps.specs.Words.{SameOutside};
 ghost use Rattle.judging.specs.Gates.{peakGates, resultAt, passing, verdictOf};
+ghost use Rattle.counting.specs.Tally.{counted};
 ghost use Rattle.hough.specs.Hough.{scale, peakOffset};
 ghost use Rattle.hough.specs.Limits.{Bins};
 ghost use Rattle.panako_vote.specs.Votes.{InRange};
-ghost use Rattle.panako_judging.specs.Judge.{middle, seenOf, askedOf, atPeak, scaleOf, resultOf, judgeBy};
+ghost use Rattle.panako_judging.specs.Judge.{middle, binCount, seenOf, askedOf, atPeak, scaleOf, resultOf, judgeBy};
 ghost use Rattle.panako_judging.specs.Candidates.{lowest, wordOf, votesIn, Candidate, Binned};
 use bins::Form;
 use hough::Peak;
@@ -147,9 +148,10 @@ pub fn judge(s: &mut [i64], a: usize, g: usize, at: usize, q: PanakoQuery, rate:
 // ---- a candidate with few bins
 
 // The bins of the first g votes, where they are few, are written from word `at` on: no order is asked of the votes. Yields how many bins there are,
-// or 0 where they are not counted.
+// or 0 where they are more.
 pub fn count_few(s: &mut [i64], g: usize, at: usize) -> usize
     requires { ⌜ (g ≤ at) × (at + 3 * g ≤ length (now s)) × (g ≤ 1000000) ⌝ }
+    ensures { λ n. ⌜ n ≡ counted (binCount (votesIn (now (s .entry)) 0 g)) ⌝ }
     ensures { λ n. ⌜ (0 < n → Binned (now (s .exit)) g at n) ⌝ }
     ensures { λ _. ⌜ take g (now (s .exit)) ≡ take g (now (s .entry)) ⌝ }
 {

@@ -36,8 +36,8 @@ returns-4 c =
     let u = k .before .before .before in
     let o = u .before .before .before .before in
     let n = k .count-few in
-    let kept = n .ensures .1 in
-    (λ h. alike (o .args .s .now) (n .last .0) (o .args .v) (n .result) (u .run-end .result) (omega arith) kept (u .run-end .ensures) (omega arith) (n .ensures .0 h), kept)
+    let kept = n .ensures .1 .1 in
+    (λ h. alike (o .args .s .now) (n .last .0) (o .args .v) (n .result) (u .run-end .result) (omega arith) kept (u .run-end .ensures) (omega arith) (n .ensures .1 .0 h), kept)
 
 pub few-bins-spec : {M : Type 1} → statement M
 few-bins-spec =

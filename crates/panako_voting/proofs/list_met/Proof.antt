@@ -44,7 +44,7 @@ list-rest-requires : tie.Need-list-rest-requires Inv-loop μ-loop
 list-rest-requires c κs =
     let l = c .before .before .loop in
     let o = c .before .before .before .before .before .before in
-    (omega (arith, o .pre .0, l .inv .2), o .pre .1, o .pre .2, o .pre .3, l .inv .0, l .inv .1)
+    (omega (arith, o .pre .0, l .inv .2), omega (arith, o .pre .1), omega (arith, o .pre .2), omega (arith, o .pre .3), omega (arith, l .inv .0), l .inv .1)
 
 same-length : tie.Need-same-length Inv-loop μ-loop
 same-length c = let r = c .before .before in r .list-rest .kept .0 ∙ r .before .before .before .loop .inv .2
