@@ -5,7 +5,7 @@ ghost use Prim.Native.Nat.{_+_, _*_, _≤_, _<_, _^_};
 ghost use lib.IntN.{pos, natAbs, _+ℤ_, _-ℤ_};
 ghost use lib.ListN.{length, set, take};
 ghost use Rattle.maps.specs.Words.{SameOutside};
-ghost use Rattle.judging.specs.Gates.{peakGates, resultAt, passing, verdictOf};
+ghost use Rattle.judging.specs.Gates.{admits, peakGates, resultAt, passing, verdictOf};
 ghost use Rattle.counting.specs.Tally.{counted};
 ghost use Rattle.hough.specs.Hough.{scale, peakOffset};
 ghost use Rattle.hough.specs.Limits.{Bins};
@@ -129,15 +129,22 @@ fn weigh(s: &[i64], n: usize, q: PanakoQuery, fps: f32) -> Verdict
     Verdict::Passed(result(s, n, q, p, score, prominence, fps))
 }
 
+// Steps 1 and 2, of a candidate with g votes whose row has the rate fps.
+fn admitted(q: PanakoQuery, fps: f32, g: usize) -> bool
+    ensures { λ r. ⌜ r ≡ admits (q .«frames_per_sec») fps (q .cfg .«min_votes») g ⌝ }
+{
+    let cfg = q.cfg;
+    judging::admitted(q.frames_per_sec, fps, cfg.min_votes, g)
+}
+
 // A candidate: the g votes from word a on, in order, and its row's rate. Its bins are written from word `at` on.
 pub fn judge(s: &mut [i64], a: usize, g: usize, at: usize, q: PanakoQuery, rate: u32) -> Verdict
     requires { ⌜ Candidate (now s) a g at q ⌝ }
     ensures { λ r. ⌜ (r ≡ verdictOf (judgeBy q rate (votesIn (now (s .entry)) a g)))
         × SameOutside (now (s .entry)) (now (s .exit)) at (at + 3 * g) ⌝ }
 {
-    let cfg = q.cfg;
     let fps = floats::f32_from_bits(rate);
-    if !judging::admitted(q.frames_per_sec, fps, cfg.min_votes, g) {
+    if !admitted(q, fps, g) {
         return Verdict::Barred;
     }
     let n = bins::count_sorted(s, a, g, at, FORM, MIDDLE as u64);
@@ -163,9 +170,8 @@ pub fn judge_binned(s: &[i64], g: usize, at: usize, n: usize, q: PanakoQuery, ra
     requires { ⌜ Binned (now s) g at n × (0 < g) × (g ≤ 1000000) × (q .cfg .«offset_tolerance_frames» ≤ 65535) ⌝ }
     ensures { λ r. ⌜ r ≡ verdictOf (judgeBy q rate (votesIn (now (s .entry)) 0 g)) ⌝ }
 {
-    let cfg = q.cfg;
     let fps = floats::f32_from_bits(rate);
-    if !judging::admitted(q.frames_per_sec, fps, cfg.min_votes, g) {
+    if !admitted(q, fps, g) {
         return Verdict::Barred;
     }
     let e = at + 3 * n;

@@ -68,7 +68,8 @@ fn best_of_few(s: &[i64], v: usize, n: usize, refs: &[u32], q: PanakoQuery) -> B
     ensures { λ r. ⌜ bestSoFar r ≡ bestIn q (now (refs .entry)) (take v (now (s .entry))) ⌝ }
 {
     let id = bins::lead_at(s, 0, LOWEST, 52);
-    let rate = rows::row_word(refs, id as usize, 0);
+    let j = id as usize;
+    let rate = rows::row_word(refs, j, 0);
     candidates::keep(
         Best::Nothing,
         id as u32,

@@ -20,7 +20,7 @@ use Rattle.panako_judging.proofs.judge.Tie as tie
 -- ---- the places
 
 abbrev start : tie.After-admitted → tie.Start
-start c = c .before .before .before
+start c = c .before .before
 
 abbrev binned : tie.After-weigh-arg → tie.After-count-sorted
 binned c = c .before .before .before

@@ -17,7 +17,7 @@ use Rattle.panako_judging.proofs.judge_binned.Statement.{statement}
 use Rattle.panako_judging.proofs.judge_binned.Tie as tie
 
 abbrev start : tie.After-admitted → tie.Start
-start c = c .before .before .before
+start c = c .before .before
 
 abbrev votes : tie.Start → List Vote
 votes o = votesIn (o .args .s .now) 0 (o .args .g)
@@ -65,7 +65,7 @@ part-weigh-end c = search needs
 
 weigh-requires : tie.Need-weigh-requires
 weigh-requires c κs =
-    let o = c .before .before .before .before .before in
+    let o = c .before .before .before .before in
     let b = o .pre .0 in (
       bins-good (o .args .s .now) 0 (o .args .g) (fits o) (o .args .n) _ (b .number) (b .bins) (o .pre .2),
       bins-some (o .args .s .now) 0 (o .args .g) (fits o) (o .args .n) _ (b .number) (b .bins) (o .pre .1),
