@@ -2,3 +2,4 @@
 pub mod Steps
 pub mod Levels
 pub mod Meeting
+pub mod Pivots
