@@ -29,6 +29,7 @@ macro_rules! checks {
                 concat!($name, ", every one at the ends"),
                 every_end::<$index>,
             );
+            $run.check(concat!($name, ", a few bins"), few_bins::<$index>);
             $run.check(concat!($name, ", many votes"), many_votes::<$index>);
             $run.check(concat!($name, ", histories"), histories::<$index>);
             $run.check(
@@ -453,6 +454,51 @@ fn every<I: Asked>(
     let [.., best, none, _, _] = met.cases;
     check.note(format!("best {best}, none {none}"));
     assert!(best > 0 && none > 0);
+}
+
+// ---- a few bins
+
+/// Votes of one recording, or of two, in so many bins: about the numbers up to
+/// which Panako's bins are counted with no sort.
+fn few_bins<I: Asked>(check: &mut Check) {
+    const OTHER: u32 = 1000;
+    let met = &mut Met::default();
+    let posting = |key| [key, 5000, 5030, 5100].into_iter().take(I::HASH);
+    let mut trial = Trial::<I>::empty(Sizes::new(2, 101, 1));
+    let hashes = (0..100).flat_map(posting).collect();
+    trial.expect(check, met, insert(hashes), stored(0));
+    trial.expect(check, met, insert(posting(OTHER).collect()), stored(1));
+    for _ in check.times(20_000) {
+        let rng = &mut check.rng;
+        let votes = rng.pick(&[1, 2, 20, 63, 64, 65, 66, 100]);
+        let bins = rng.pick(&[1, 2, 7, 8, 9, 10, 30]);
+        let apart = rng.pick(&[1, 2, 50]);
+        let span = rng.pick(&[100, 96, 105]);
+        let first = rng.below(100) as u32;
+        let hash = |key, bin| {
+            let anchor = 4000 + apart * bin;
+            [key, anchor, anchor + 30, anchor + span]
+                .into_iter()
+                .take(I::HASH)
+        };
+        // As many bins as are asked for, where there are votes enough.
+        let mut hashes: Vec<u32> = (0..votes)
+            .flat_map(|vote| {
+                let bin = match vote {
+                    vote if vote < bins => vote,
+                    _ => rng.below(bins.into()) as u32,
+                };
+                hash((first + vote) % 100, bin)
+            })
+            .collect();
+        if rng.below(4) == 0 {
+            hashes.extend(hash(OTHER, bins));
+        }
+        let tolerance = rng.pick(&[0, 1, 2, 4, 5, 60]);
+        let query = query(hashes, tolerance).with_room::<I>(rng, votes as usize + 1);
+        let given = trial.call(check, met, Call::Query(query));
+        assert_eq!(given[0], 4, "there are votes");
+    }
 }
 
 // ---- many votes
