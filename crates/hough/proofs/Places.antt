@@ -6,14 +6,14 @@ use mathlib.Core.List.{List}
 use native.Mathlib.Omega.{arith}
 use lib.IntN.{ℤ, pos, negsuc, natAbs, subℕ, _+ℤ_}
 use lib.Signed.{nonNeg, ltZ}
-use lib.Dec.{T, leb, ltb, eqb, ltb→lt}
+use lib.Dec.{T, ltb, eqb, ltb→lt}
 use borrow.Author.Tests.{ltb-true, eqb-true, le-ltb}
 use mir.Syntax.{w64}
 use mir.Val.{Fits, SFits}
 use Rattle.lists.proofs.Tests.{test, or-else, and-left, and-right}
 use Rattle.maps.specs.Sums.{sumTo, when}
 use Rattle.consolidate.specs.Windows.{withinℕ, windowSum}
-use Rattle.maps.proofs.Sums.{sum-zero, sum-next, sum-cong, sum-add, sum-mono, sum-term, sum-kept}
+use Rattle.maps.proofs.Sums.{sum-zero, sum-cong, sum-add, sum-mono, sum-term, sum-kept}
 use Rattle.maps.proofs.Signed.{fits-abs}
 use Rattle.consolidate.proofs.Signed.{sub-dist}
 use Rattle.maps.proofs.Tests.{holds, is-true}
@@ -68,8 +68,11 @@ module _ (l : List ℤ) (n : ℕ) (b : Bins l n) where
   pub scale-word : (i : ℕ) → i < n → Fits w64 (scale l i)
   scale-word i h = record { fits = omega (arith, b .scales i h) }
 
+  pub vote-small : (i : ℕ) → i < n → votes l i ≤ 1000000
+  vote-small i h = omega (arith, sum-term (votes l) n i h, b .sum)
+
   pub vote-word : (i : ℕ) → i < n → Fits w64 (votes l i)
-  vote-word i h = record { fits = omega (arith, sum-term (votes l) n i h, b .sum) }
+  vote-word i h = record { fits = omega (arith, vote-small i h) }
 
   pub inside : (i : ℕ) → i < n → Inside (place l i)
   inside i h = let p = place-fits i h in (omega (arith, p .2), omega (arith, p .1))
@@ -109,15 +112,6 @@ module _ (l : List ℤ) (n : ℕ) (b : Bins l n) where
       (λ j u. rw (apart-is i j h u) (spread (scale l i) (scale l j) (place l i) (place l j) tol (votes l j) (inside i h) (inside j u) T))
       ∙ sym (sum-add (λ j. f (x - row) j + f x j) (f (x + row)) n)
       ∙ ap (λ (z : ℕ). z + sumTo (f (x + row)) n) (sym (sum-add (f (x - row)) (f x) n))
-
-  -- the sum of bin i's neighbours before j + 1, k being its scale bin and x its place
-  pub hough-more : (tol i j k x v : ℕ) → i < n → j < n → k ≡ scale l i → x ≡ place l i
-      → v ≡ when (leb (dist k (scale l j)) 1 && leb (dist x (place l j)) tol) (votes l j)
-      → houghSum l (j + 1) tol i ≡ houghSum l j tol i + v
-  unfolding houghSum
-  hough-more tol i j k x v h u ek ex ev =
-      sum-next (λ j. when (neighbour l tol i j) (votes l j)) j
-      ∙ ap (λ (z : ℕ). sumTo (λ j. when (neighbour l tol i j) (votes l j)) j + z) (rw (apart-is i j h u, ← ek, ← ex) (sym ev))
 
   pub hough-small : (tol i j : ℕ) → j ≤ n → houghSum l j tol i ≤ 1000000
   unfolding houghSum

@@ -5,8 +5,8 @@
 // Scale bin and offset make one number, the bin's key: a row of 2^41 for each scale bin, and in it a
 // place for the offset, with the offset 0 in the middle. The keys ascend, and the neighbours of a bin
 // are those whose keys lie within the tolerance of its own, or of the same place one row down or up.
-// So three windows slide over the bins, each by two indices that only grow. The sums of a handful of
-// bins, and with a small tolerance the offset of their peak, are worked out directly.
+// So three windows slide over the bins, each by two indices that only grow. The sums of a few bins are
+// worked out pair by pair and kept, and with a small tolerance the offset of their peak directly.
 ghost use mathlib.Core.Path.{_≡_};
 ghost use mathlib.Core.Bool.{_&&_, _||_};
 ghost use Prim.Native.Nat.{ℕ, _+_, _-_, _*_, _<_, _≤_, _^_};
@@ -18,7 +18,7 @@ ghost use Rattle.maps.specs.Sums.{when};
 ghost use Rattle.consolidate.specs.Windows.{Passed, Slides, Covers};
 ghost use Rattle.hough.specs.Hough.{scale, offset, votes, dist, far, houghSum, houghPeak, peakOffset, farSum, farCount, meanOf, prominence};
 ghost use Rattle.hough.specs.Limits.{before, Bins, binOk, binsOk, answerAt, checkedAnswer};
-ghost use Rattle.hough.specs.Keys.{place, key, Ready, Around, atStart, betterOf, moreOf, Ahead, Clear, countAt, frameTally};
+ghost use Rattle.hough.specs.Keys.{place, key, nearBy, Summed, FewSums, Ready, Around, atStart, betterOf, moreOf, Ahead, Clear, countAt, frameTally};
 use consolidate::Pass;
 use consolidate::Tally;
 use consolidate::Window;
@@ -28,7 +28,7 @@ const ROW: u64 = 0x200_0000_0000;
 const MIDDLE: i64 = 0x100_0000_0000;
 
 // For so few bins, looking at every pair is cheaper than sliding windows.
-const FEW: usize = 8;
+pub const FEW: usize = 32;
 
 // And with so small a tolerance, so is looking at every offset within it.
 const NEAR: u64 = 4;
@@ -109,33 +109,59 @@ fn abs_diff(a: u64, b: u64) -> u64
     if a <= b { b - a } else { a - b }
 }
 
-// The count of bin i where it is a neighbour of a bin of scale bin k at place x, else 0.
-fn near_votes(s: &[i64], n: usize, tol: u64, k: u64, x: u64, i: usize) -> u64
-    requires { ⌜ Bins (now s) n × (i < n) ⌝ }
-    ensures { λ r. ⌜ r ≡ when (leb (dist k (scale (now (s .entry)) i)) 1 && leb (dist x (place (now (s .entry)) i)) tol) (votes (now (s .entry)) i) ⌝ }
+// Whether keys that lie d apart are those of neighbours: in one row, or one in the next row.
+fn is_near(d: u64, tol: u64) -> bool
+    requires { ⌜ tol ≤ 65535 ⌝ }
+    ensures { λ r. ⌜ r ≡ nearBy tol d ⌝ }
 {
-    let scales = abs_diff(k, scale_at(s, n, i));
-    let frames = abs_diff(x, place_at(s, n, i));
-    if (scales <= 1) & (frames <= tol) {
-        return votes_at(s, n, i);
-    }
-    0
+    (d <= tol) | ((d <= ROW + tol) & (ROW - tol <= d))
 }
 
-// The sum of the counts of bin i's neighbours, by a look at every bin.
-fn direct_sum(s: &[i64], n: usize, tol: u64, i: usize) -> u64
-    requires { ⌜ Bins (now s) n × (i < n) ⌝ }
-    ensures { λ r. ⌜ r ≡ houghSum (now (s .entry)) n tol i ⌝ }
+// v where b holds, else 0.
+fn kept(b: bool, v: u64) -> u64
+    ensures { λ r. ⌜ r ≡ when b v ⌝ }
 {
-    let k = scale_at(s, n, i);
-    let x = place_at(s, n, i);
+    if b { v } else { 0 }
+}
+
+// The sums among the first i bins become those among one bin more.
+fn add_bin(sums: &mut [u64], s: &[i64], n: usize, tol: u64, i: usize)
+    requires { ⌜ Bins (now s) n × (tol ≤ 65535) × (i < n) × (n ≤ length (now sums)) × Summed (now s) tol i (now sums) ⌝ }
+    ensures { λ _. ⌜ Summed (now (s .entry)) tol (i + 1) (now (sums .exit)) ⌝ }
+{
+    let x = key_at(s, n, i);
+    let v = votes_at(s, n, i);
     let mut sum: u64 = 0;
     let mut j: usize = 0;
-    while j < n {
-        sum += near_votes(s, n, tol, k, x, j);
+    while j < i {
+        let near = is_near(x - key_at(s, n, j), tol);
+        sum += kept(near, votes_at(s, n, j));
+        sums[j] += kept(near, v);
         j += 1;
     }
-    sum
+    sums[i] = sum + v;
+}
+
+// The sum of each bin.
+fn put_sums(sums: &mut [u64], s: &[i64], n: usize, tol: u64)
+    requires { ⌜ Bins (now s) n × (tol ≤ 65535) × (n ≤ length (now sums)) ⌝ }
+    ensures { λ _. ⌜ Summed (now (s .entry)) tol n (now (sums .exit)) ⌝ }
+{
+    let mut i: usize = 0;
+    while i < n {
+        add_bin(sums, s, n, tol, i);
+        i += 1;
+    }
+}
+
+// The sum of each bin, where they are few: what the peak and its prominence then need not work out.
+pub fn few_sums(sums: &mut [u64], s: &[i64], n: usize, tol: u64)
+    requires { ⌜ Bins (now s) n × (tol ≤ 65535) × (32 ≤ length (now sums)) ⌝ }
+    ensures { λ _. ⌜ FewSums (now (s .entry)) n tol (now (sums .exit)) ⌝ }
+{
+    if n <= FEW {
+        put_sums(sums, s, n, tol);
+    }
 }
 
 // ---- windows
@@ -238,30 +264,27 @@ fn better(p: Peak, i: usize, v: u64) -> Peak
     p
 }
 
-// The peak, each sum worked out directly.
-fn direct_peak(s: &[i64], n: usize, tol: u64) -> Peak
-    requires { ⌜ Bins (now s) n ⌝ }
+// The peak by the sums of a few bins.
+fn few_peak(s: &[i64], n: usize, tol: u64, sums: &[u64]) -> Peak
+    requires { ⌜ Bins (now s) n × (n ≤ length (now sums)) × Summed (now s) tol n (now sums) ⌝ }
     ensures { λ r. ⌜ r ≡ houghPeak (now (s .entry)) n tol ⌝ }
     ensures { λ r. ⌜ (0 < n → r .at < n) × (r .votes ≤ 1000000) ⌝ }
 {
     let mut best = Peak { votes: 0, at: 0 };
     let mut i: usize = 0;
     while i < n {
-        best = better(best, i, direct_sum(s, n, tol, i));
+        best = better(best, i, sums[i]);
         i += 1;
     }
     best
 }
 
-// The greatest sum, and the first bin that has it.
-pub fn panako_hough_peak(s: &[i64], n: usize, tol: u64) -> Peak
+// The same by sliding windows.
+fn slid_peak(s: &[i64], n: usize, tol: u64) -> Peak
     requires { ⌜ Bins (now s) n × (tol ≤ 65535) ⌝ }
     ensures { λ r. ⌜ r ≡ houghPeak (now (s .entry)) n tol ⌝ }
     ensures { λ r. ⌜ (0 < n → r .at < n) × (r .votes ≤ 1000000) ⌝ }
 {
-    if n <= FEW {
-        return direct_peak(s, n, tol);
-    }
     let mut t = at_start();
     let mut best = Peak { votes: 0, at: 0 };
     let mut i: usize = 0;
@@ -271,6 +294,18 @@ pub fn panako_hough_peak(s: &[i64], n: usize, tol: u64) -> Peak
         i += 1;
     }
     best
+}
+
+// The greatest sum, and the first bin that has it. `sums` are those of a few bins.
+pub fn panako_hough_peak(s: &[i64], n: usize, tol: u64, sums: &[u64]) -> Peak
+    requires { ⌜ Bins (now s) n × (tol ≤ 65535) × (32 ≤ length (now sums)) × FewSums (now s) n tol (now sums) ⌝ }
+    ensures { λ r. ⌜ r ≡ houghPeak (now (s .entry)) n tol ⌝ }
+    ensures { λ r. ⌜ (0 < n → r .at < n) × (r .votes ≤ 1000000) ⌝ }
+{
+    if n <= FEW {
+        return few_peak(s, n, tol, sums);
+    }
+    slid_peak(s, n, tol)
 }
 
 // ---- the prominence
@@ -335,12 +370,28 @@ fn far_sums(s: &[i64], n: usize, tol: u64, a: usize) -> Background
     b
 }
 
-// The background of bin a. Where all bins are within its reach, as in most small candidates, no sum
-// is worked out again.
-fn background_of(s: &[i64], n: usize, tol: u64, a: usize) -> Background
-    requires { ⌜ Bins (now s) n × (tol ≤ 65535) × (a < n) ⌝ }
+// The same by the sums of a few bins.
+fn few_far(s: &[i64], n: usize, tol: u64, a: usize, sums: &[u64]) -> Background
+    requires { ⌜ Bins (now s) n × (tol ≤ 65535) × (a < n) × (n ≤ length (now sums)) × Summed (now s) tol n (now sums) ⌝ }
     ensures { λ r. ⌜ (r .sum ≡ farSum (now (s .entry)) n tol a) × (r .count ≡ farCount (now (s .entry)) n tol a) ⌝ }
 {
+    let mut b = Background { sum: 0, count: 0 };
+    let mut i: usize = 0;
+    while i < n {
+        b = more(b, is_far(s, n, tol, a, i), sums[i]);
+        i += 1;
+    }
+    b
+}
+
+// The background of bin a. Where all bins are within its reach no sum is worked out again.
+fn background_of(s: &[i64], n: usize, tol: u64, a: usize, sums: &[u64]) -> Background
+    requires { ⌜ Bins (now s) n × (tol ≤ 65535) × (a < n) × (32 ≤ length (now sums)) × FewSums (now s) n tol (now sums) ⌝ }
+    ensures { λ r. ⌜ (r .sum ≡ farSum (now (s .entry)) n tol a) × (r .count ≡ farCount (now (s .entry)) n tol a) ⌝ }
+{
+    if n <= FEW {
+        return few_far(s, n, tol, a, sums);
+    }
     if any_far(s, n, tol, a) {
         return far_sums(s, n, tol, a);
     }
@@ -356,12 +407,12 @@ fn mean(b: Background) -> f32
     floats::u64_to_f32(b.sum) / floats::u64_to_f32(b.count)
 }
 
-// The peak's votes over one more than the mean of the sums out of its reach.
-pub fn panako_prominence(s: &[i64], n: usize, tol: u64, p: Peak) -> f32
-    requires { ⌜ Bins (now s) n × (tol ≤ 65535) × (p .at < n) ⌝ }
+// The peak's votes over one more than the mean of the sums out of its reach. `sums` are those of a few bins.
+pub fn panako_prominence(s: &[i64], n: usize, tol: u64, p: Peak, sums: &[u64]) -> f32
+    requires { ⌜ Bins (now s) n × (tol ≤ 65535) × (p .at < n) × (32 ≤ length (now sums)) × FewSums (now s) n tol (now sums) ⌝ }
     ensures { λ r. ⌜ r ≡ prominence (now (s .entry)) n tol (p .votes) (p .at) ⌝ }
 {
-    let b = background_of(s, n, tol, p.at);
+    let b = background_of(s, n, tol, p.at, sums);
     floats::u64_to_f32(p.votes) / (mean(b) + 1.0)
 }
 
@@ -555,11 +606,13 @@ fn answer_of(s: &[i64], n: usize, tol: u64) -> Answer
     requires { ⌜ Bins (now s) n × (0 < n) × (tol ≤ 65535) ⌝ }
     ensures { λ r. ⌜ r ≡ answerAt (now (s .entry)) n tol (houghPeak (now (s .entry)) n tol) ⌝ }
 {
-    let peak = panako_hough_peak(s, n, tol);
+    let mut sums = [0u64; 32];
+    few_sums(&mut sums, s, n, tol);
+    let peak = panako_hough_peak(s, n, tol, &sums);
     Answer {
         peak,
         offset: panako_peak_offset(s, n, tol, peak.at),
-        prominence: panako_prominence(s, n, tol, peak),
+        prominence: panako_prominence(s, n, tol, peak, &sums),
     }
 }
 

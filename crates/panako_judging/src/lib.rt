@@ -113,12 +113,14 @@ fn weigh(s: &[i64], n: usize, q: PanakoQuery, fps: f32) -> Verdict
 {
     let cfg = q.cfg;
     let tol = maps::wide(cfg.offset_tolerance_frames);
-    let p = hough::panako_hough_peak(s, n, tol);
+    let mut sums = [0u64; 32];
+    hough::few_sums(&mut sums, s, n, tol);
+    let p = hough::panako_hough_peak(s, n, tol, &sums);
     let votes = p.votes;
     if votes < maps::wide(cfg.min_votes) {
         return Verdict::Barred;
     }
-    let prominence = hough::panako_prominence(s, n, tol, p);
+    let prominence = hough::panako_prominence(s, n, tol, p, &sums);
     if matching::below_threshold(prominence, cfg.min_prominence) {
         return Verdict::Barred;
     }
