@@ -26,6 +26,8 @@ struct Card {
     lists: usize,
     hashes: usize,
     bits: u32,
+    /// The shortest span of a Panako hash, and how many lengths there are.
+    spans: [u32; 2],
     /// How long a time of a list is when it is heard, in percent.
     percent: u32,
     sizes: Sizes,
@@ -39,6 +41,7 @@ const SCHOOL: Card = Card {
     lists: 30,
     hashes: 30,
     bits: 22,
+    spans: [20, 1],
     percent: 100,
     sizes: Sizes {
         rows: 32,
@@ -49,12 +52,25 @@ const SCHOOL: Card = Card {
     turns: 300,
 };
 
+/// Longer lists, so that a query may be long too.
+const CLINIC: Card = Card {
+    name: "30 × 300, 22 bits",
+    hashes: 300,
+    sizes: Sizes {
+        rows: 32,
+        postings: 16_384,
+        stopped: 256,
+    },
+    ..SCHOOL
+};
+
 const fn depot(name: &'static str, lists: usize, bits: u32, postings: usize) -> Card {
     Card {
         name,
         lists,
         hashes: 3000,
         bits,
+        spans: [20, 1],
         percent: 100,
         sizes: Sizes {
             rows: 512,
@@ -168,7 +184,9 @@ fn timed<T>(least: &mut f64, calls: usize, work: impl FnOnce() -> T) -> T {
 fn list<I: Index>(rng: &mut Rng, card: Card) -> Vec<u32> {
     let hash = |i: usize| {
         let anchor = 6 * i as u32 + rng.below(6) as u32;
-        let times = [anchor, anchor + 5, anchor + 20];
+        let [least, lengths] = card.spans;
+        let end = anchor + least + rng.below(lengths.into()) as u32;
+        let times = [anchor, anchor + 5, end];
         let key = rng.below(1 << card.bits) as u32;
         [key].into_iter().chain(times).take(I::HASH)
     };
@@ -272,6 +290,8 @@ fn queries(only: Option<&str>) {
         (SCHOOL, 30, Room::Met),
         (SCHOOL, 30, Room::Votes(256)),
         (SCHOOL, 30, Room::Votes(512)),
+        (CLINIC, 100, Room::Met),
+        (CLINIC, 300, Room::Met),
         (LARGE[0], 300, Room::Met),
         (LARGE[0], 2048, Room::Met),
         (LARGE[1], 300, Room::Met),
@@ -284,24 +304,8 @@ fn queries(only: Option<&str>) {
             rows.extend(measure_queries::<Panako>("PanakoIndex", card, hashes, room));
         }
     }
-    // Spans of 20 frames are heard as one length at some speeds, and as two at
-    // the others.
     if asked("Panako query") {
-        for (name, percent) in [
-            ("30 × 30, 22 bits, times 90 %", 90),
-            ("30 × 30, 22 bits, times 97 %", 97),
-            ("30 × 30, 22 bits, times 103 %", 103),
-            ("30 × 30, 22 bits, times 107 %", 107),
-            ("30 × 30, 22 bits, times 110 %", 110),
-        ] {
-            let card = Card {
-                name,
-                percent,
-                ..SCHOOL
-            };
-            let room = Room::Votes(256);
-            rows.extend(measure_queries::<Panako>("PanakoIndex", card, 30, room));
-        }
+        rows.extend(speeds());
     }
     for hashes in [500, 1000, 2000] {
         if asked("Wang query") {
@@ -321,6 +325,65 @@ fn queries(only: Option<&str>) {
     );
     println!("|---|---|---|---|---|---|---|---|---|---|---|");
     rows.iter().for_each(|row| println!("{row}"));
+}
+
+/// Panako's queries at other speeds. Spans of 20 frames are heard as one length
+/// at some, and as two at the others.
+fn speeds() -> Vec<String> {
+    let alike = [20, 1];
+    let varied = [5, 36];
+    let [school, clinic] = [(SCHOOL, 30, Room::Votes(256)), (CLINIC, 300, Room::Met)];
+    let rows = [
+        (school, "30 × 30, 22 bits, times 90 %", alike, 90),
+        (school, "30 × 30, 22 bits, times 97 %", alike, 97),
+        (school, "30 × 30, 22 bits, times 103 %", alike, 103),
+        (school, "30 × 30, 22 bits, times 107 %", alike, 107),
+        (school, "30 × 30, 22 bits, times 110 %", alike, 110),
+        (school, "30 × 30, 22 bits, spans 5 to 40", varied, 100),
+        (
+            school,
+            "30 × 30, 22 bits, spans 5 to 40, times 90 %",
+            varied,
+            90,
+        ),
+        (
+            school,
+            "30 × 30, 22 bits, spans 5 to 40, times 97 %",
+            varied,
+            97,
+        ),
+        (
+            school,
+            "30 × 30, 22 bits, spans 5 to 40, times 103 %",
+            varied,
+            103,
+        ),
+        (
+            school,
+            "30 × 30, 22 bits, spans 5 to 40, times 110 %",
+            varied,
+            110,
+        ),
+        (clinic, "30 × 300, 22 bits, times 97 %", alike, 97),
+        (clinic, "30 × 300, 22 bits, times 103 %", alike, 103),
+        (clinic, "30 × 300, 22 bits, times 110 %", alike, 110),
+        (
+            clinic,
+            "30 × 300, 22 bits, spans 5 to 40, times 103 %",
+            varied,
+            103,
+        ),
+    ];
+    let row = |((card, hashes, room), name, spans, percent)| {
+        let card = Card {
+            name,
+            spans,
+            percent,
+            ..card
+        };
+        measure_queries::<Panako>("PanakoIndex", card, hashes, room)
+    };
+    rows.into_iter().filter_map(row).collect()
 }
 
 /// A part of a list as it is heard: from its own begin, a hash in four lost

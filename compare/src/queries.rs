@@ -459,7 +459,7 @@ fn every<I: Asked>(
 // ---- a few bins
 
 /// Votes of one recording, or of two, in so many bins: about the numbers up to
-/// which Panako's bins are counted with no sort.
+/// which Panako's bins are counted with no sort, and their sums kept.
 fn few_bins<I: Asked>(check: &mut Check) {
     const OTHER: u32 = 1000;
     let met = &mut Met::default();
@@ -471,7 +471,7 @@ fn few_bins<I: Asked>(check: &mut Check) {
     for _ in check.times(20_000) {
         let rng = &mut check.rng;
         let votes = rng.pick(&[1, 2, 20, 63, 64, 65, 66, 100]);
-        let bins = rng.pick(&[1, 2, 7, 8, 9, 10, 30]);
+        let bins = rng.pick(&[1, 2, 5, 6, 7, 8, 31, 32, 33, 34, 50]);
         let apart = rng.pick(&[1, 2, 50]);
         let span = rng.pick(&[100, 96, 105]);
         let first = rng.below(100) as u32;

@@ -55,10 +55,14 @@ pub record Votes (rs : List ℕ) (s : List ℤ) (v : ℕ) (q : PanakoQuery) : Ty
   pub limits : Limits rs q
   pub words : of-reading.Votes (Known rs) 5 s v
 
--- the first v words are votes of one recording, and their n bins stand from word 2 * v on
-pub record Alike (s : List ℤ) (v n : ℕ) : Type 0 where
+-- the first v words are votes of one recording
+pub record OneRecording (s : List ℤ) (v : ℕ) : Type 0 where
   pub some : 0 < v
   pub one : (t : ℕ) → t < v → recordingOf (getD s t (pos 0)) ≡ recordingOf (getD s 0 (pos 0))
+
+-- and their n bins stand from word 2 * v on
+pub record Alike (s : List ℤ) (v n : ℕ) : Type 0 where
+  pub votes : OneRecording s v
   pub binned : Binned s v (2 * v) n
 
 -- postings and query hashes whose votes can be gathered; a posting is of a recording in the references

@@ -9,9 +9,12 @@ ghost use Rattle.soundness.specs.Scan.{words};
 ghost use Rattle.ranking.specs.Answers.{bestSoFar, findingAnswer, scratchAfter};
 ghost use Rattle.seeking.specs.Starts.{Starts, Ends, Zeros};
 ghost use Rattle.panako_vote.specs.Grids.{gridOf};
+ghost use Rattle.counting.specs.Tally.{counted};
+ghost use Rattle.panako_judging.specs.Judge.{binCount};
+ghost use Rattle.panako_judging.specs.Candidates.{votesIn};
 ghost use Rattle.panako_judging.specs.Scheme.{queryOf, panako};
 ghost use Rattle.panako_querying.specs.Asked.{asked};
-ghost use Rattle.panako_querying.specs.Candidates.{bestIn, wordsIn, answerIn, Limits, Known, Votes, Alike, Posted};
+ghost use Rattle.panako_querying.specs.Candidates.{bestIn, wordsIn, answerIn, Limits, Known, Votes, OneRecording, Alike, Posted};
 use panako_judging::LOWEST;
 use panako_judging::PanakoQuery;
 use panako_vote::PanakoMatchConfig;
@@ -40,20 +43,15 @@ fn best_of(s: &mut [i64], v: usize, refs: &[u32], q: PanakoQuery) -> Best
     best
 }
 
-// The most votes of a candidate that are looked at for few bins.
-const MANY: usize = 64;
-
 // The bins of the first v words, where these are votes of one recording and the bins are few, as in most queries that are answered: no order is asked
 // of the votes. The bins are written from word 2 * v on. Yields how many they are, or 0 where they are not counted.
 fn few_bins(s: &mut [i64], v: usize) -> usize
     requires { ⌜ (5 * v ≤ length (now s)) × (v ≤ 1000000) ⌝ }
     ensures { λ n. ⌜ (0 < n → Alike (now (s .exit)) v n) ⌝ }
     ensures { λ _. ⌜ take v (now (s .exit)) ≡ take v (now (s .entry)) ⌝ }
+    ensures { λ n. ⌜ (OneRecording (now (s .entry)) v → n ≡ counted (binCount (votesIn (now (s .entry)) 0 v))) ⌝ }
 {
     if v == 0 {
-        return 0;
-    }
-    if MANY < v {
         return 0;
     }
     if bins::run_end(s, 0, v, LOWEST, 52) < v {

@@ -44,7 +44,7 @@ module _ (f : tie.After-few-bins) where
   g = f .before .before .before .before .before
 
   kept : take (g .gather .result) (f .few-bins .last .0) ≡ words g
-  kept = f .few-bins .ensures .1 ∙ gathered g
+  kept = f .few-bins .ensures .1 .0 ∙ gathered g
 
 few-bins-requires : tie.Need-few-bins-requires
 few-bins-requires c κs =
@@ -62,7 +62,7 @@ best-of-few-requires c κs =
       o .pre .0 .limits,
       a,
       first-known (o .args .refs .now) (o .args .posts .now) (o .args .hashes .now) (o .args .q) (o .pre .0) (λ i. omega (arith, third .before .shared-slice-known2 .given i)) (λ i. omega (arith, third .shared-slice-known3 .given i))
-          (f .few-bins .last .0) (k .gather .result) (many k) (kept f) (a .some),
+          (f .few-bins .last .0) (k .gather .result) (many k) (kept f) (a .votes .some),
       omega (arith, many k, o .pre .3),
     )
 
