@@ -4,6 +4,7 @@ pub mod Walks
 pub mod Gathering
 pub mod Ranks
 pub mod Judged
+pub mod Main
 pub mod Groups
 pub mod Turns
 pub mod Sorted

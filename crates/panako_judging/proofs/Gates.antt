@@ -1,14 +1,19 @@
 -- What the code finds of n bins is what is seen of them; the gates, from the word of the row's rate. Assumes nothing.
 use mathlib.Core.Path.{_≡_, refl}
 use mathlib.Core.List.{List}
-use Prim.Native.Nat.{ℕ}
+use mathlib.Core.Bool.{and-false}
+use mathlib.Core.Option.{none}
+use Prim.Native.Nat.{ℕ, _<_}
 use lib.IntN.{ℤ}
 use lib.ListN.{length}
 use lib.Ieee.{Float, binary32, ofBits}
+use borrow.Author.Tests.{lt-leb}
+use Rattle.lists.specs.Every.{allTrue}
+use Rattle.matching.specs.Rates.{ratesAgree}
 use Rattle.matching.specs.Scores.{scoreOf}
 use Rattle.hough.specs.Hough.{scale, houghPeak, peakOffset, prominence}
 use Rattle.hough.specs.declared.Peak.{Peak}
-use Rattle.judging.specs.Gates.{resultAt, verdictOf}
+use Rattle.judging.specs.Gates.{gates, resultAt, verdictOf}
 use Rattle.judging.specs.declared.Verdict.{Verdict}
 use Rattle.judging.proofs.Passing.{Judged}
 use Rattle.panako_judging.specs.Judge.{Vote, binsOf, binCount, Seen, seenOf, askedOf, atPeak, scaleOf, resultOf, judgeBy}
@@ -41,3 +46,8 @@ module _ (q : PanakoQuery) (rate : ℕ) (vs : List Vote) where
       → Judged (askedOf q) fps (length vs) (atPeak seen) (resultOf q fps seen) v → v ≡ verdictOf (judgeBy q rate vs)
   unfolding judgeBy
   judged-by fps e v w = rw e at w
+
+  -- "Too few votes against min_votes: no candidate."
+  pub judged-few : length vs < q .cfg .«min_votes» → judgeBy q rate vs ≡ none
+  unfolding judgeBy gates allTrue
+  judged-few h = rw (lt-leb (q .cfg .«min_votes») (length vs) h, and-false (ratesAgree (q .«frames_per_sec») (ofBits binary32 rate))) refl

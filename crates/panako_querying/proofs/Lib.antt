@@ -2,5 +2,6 @@
 pub mod Pairs
 pub mod Turns
 pub mod Few
+pub mod Main
 pub mod Sorted
 pub mod Queries

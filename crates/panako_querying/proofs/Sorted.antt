@@ -15,20 +15,21 @@ use Rattle.candidates.proofs.Sorted as sorting
 use Rattle.panako_judging.specs.declared.PanakoQuery.{PanakoQuery}
 use Rattle.panako_judging.specs.Candidates.{recordingOf}
 use Rattle.panako_voting.specs.Gathered.{pairWords}
-use Rattle.panako_querying.specs.Candidates.{postingsIn, hashesIn, wordsIn, Known, Votes, Posted}
+use Rattle.panako_querying.specs.Candidates.{postingsIn, hashesIn, wordsIn, Limits, Known, Votes, Posted}
 use Rattle.panako_querying.proofs.Pairs.{SmallHash, SmallPosting, small-hashes, small-postings, own}
 
 module _ (rs ps hs : List ℕ) (q : PanakoQuery) (P : Posted rs ps hs q) (post-bits : (i : ℕ) → getD ps i 0 < 2 ^ 32) (hash-bits : (i : ℕ) → getD hs i 0 < 2 ^ 32) where
-  all-known : All (Known rs) (wordsIn q rs ps hs)
+  pub all-known : All (Known rs) (wordsIn q rs ps hs)
   all-known = words-all (pairWords (gridOf (q .cfg))) (Known rs) (0 + length (hashesIn q hs)) SmallHash (λ e. (getD e 1 0 < getD rs 0 0) × SmallPosting e)
       (λ i h e k H E. all-imp (λ z. recordingOf z ≡ getD e 1 0) (Known rs) (λ z m. rw m (E .0)) (pairWords (gridOf (q .cfg)) i h e) (own (gridOf (q .cfg)) (P .packable .grid) i h e H (E .1)))
       (postingsIn rs ps) (all-both (λ e. getD e 1 0 < getD rs 0 0) SmallPosting (postingsIn rs ps) (P .held) (small-postings (getD rs 2 0) ps post-bits))
       (hashesIn q hs) (small-hashes (q .«q_len») hs hash-bits) 0 (omega arith)
 
-  pub sorted-votes : (s : List ℤ) (v : ℕ) → v ≡ length (wordsIn q rs ps hs) → take v s ≡ sortZ (wordsIn q rs ps hs) → v ≤ 1000000 → 5 * v ≤ length s → Votes rs s v q
-  sorted-votes s v e sorted few room = record { limits = P .limits; words = sorting.sorted-votes (wordsIn q rs ps hs) s v e sorted (Known rs) 5 all-known few room }
+module _ (rs : List ℕ) (q : PanakoQuery) (zs : List ℤ) (known : All (Known rs) zs) (s : List ℤ) (v : ℕ) (e : v ≡ length zs) where
+  pub sorted-votes : Limits rs q → take v s ≡ sortZ zs → v ≤ 1000000 → 5 * v ≤ length s → Votes rs s v q
+  sorted-votes limits sorted few room = record { limits = limits; words = sorting.sorted-votes zs s v e sorted (Known rs) 5 known few room }
 
   -- the first of them, before they are sorted
-  pub first-known : (s : List ℤ) (v : ℕ) → v ≡ length (wordsIn q rs ps hs) → take v s ≡ wordsIn q rs ps hs → 0 < v → Known rs (getD s 0 (pos 0))
-  first-known s v e same some =
-      subst (Known rs) (ap (λ (l : List ℤ). getD l 0 (pos 0)) (sym same) ∙ getD-take v s 0 (pos 0) some) (all-at (Known rs) (wordsIn q rs ps hs) (pos 0) all-known 0 (omega arith))
+  pub first-known : take v s ≡ zs → 0 < v → Known rs (getD s 0 (pos 0))
+  first-known same some =
+      subst (Known rs) (ap (λ (l : List ℤ). getD l 0 (pos 0)) (sym same) ∙ getD-take v s 0 (pos 0) some) (all-at (Known rs) zs (pos 0) known 0 (omega arith))

@@ -10,10 +10,11 @@ use Rattle.lists.specs.Entries.{entries}
 use Rattle.matching.specs.declared.MatchResult.{MatchResult}
 use Rattle.model.specs.Calls.{Answer}
 use Rattle.panako_vote.specs.Grids.{gridOf}
+use Rattle.keeping.specs.Main.{mainOf}
 use Rattle.candidates.specs.Candidates as of-reading
 use Rattle.panako_judging.specs.declared.PanakoQuery.{PanakoQuery}
 use Rattle.panako_judging.specs.Judge.{Vote, judgeBy}
-use Rattle.panako_judging.specs.Candidates.{recordingOf, voteIn, Binned}
+use Rattle.panako_judging.specs.Candidates.{lowest, recordingOf, voteIn, Binned}
 use Rattle.panako_voting.specs.Gathered.{words, Packable}
 
 -- how the word of a vote is read, and a recording judged
@@ -37,6 +38,10 @@ wordsIn q rs ps hs = words (gridOf (q .cfg)) (postingsIn rs ps) (hashesIn q hs)
 -- the answer, where the scratch has room for so many votes
 abbrev pub answerIn : PanakoQuery → ℕ → List ℕ → List ℕ → List ℕ → Answer
 answerIn q room rs ps hs = of-reading.answerIn (reading q) room rs (wordsIn q rs ps hs)
+
+-- the words that decide the best: "Too few votes against min_votes: no candidate", so fewer than that beside those of the first one's recording are left out
+abbrev pub mainIn : PanakoQuery → List ℤ → List ℤ
+mainIn q zs = mainOf lowest 52 (q .cfg .«min_votes») zs
 
 -- ---- what the code asks
 

@@ -14,7 +14,7 @@ ghost use Rattle.panako_judging.specs.Judge.{binCount};
 ghost use Rattle.panako_judging.specs.Candidates.{votesIn};
 ghost use Rattle.panako_judging.specs.Scheme.{queryOf, panako};
 ghost use Rattle.panako_querying.specs.Asked.{asked};
-ghost use Rattle.panako_querying.specs.Candidates.{bestIn, wordsIn, answerIn, Limits, Known, Votes, OneRecording, Alike, Posted};
+ghost use Rattle.panako_querying.specs.Candidates.{bestIn, wordsIn, answerIn, mainIn, Limits, Known, Votes, OneRecording, Alike, Posted};
 use panako_judging::LOWEST;
 use panako_judging::PanakoQuery;
 use panako_vote::PanakoMatchConfig;
@@ -41,6 +41,16 @@ fn best_of(s: &mut [i64], v: usize, refs: &[u32], q: PanakoQuery) -> Best
         i = e;
     }
     best
+}
+
+// Of the first v words, which are votes, keeps those that decide the best: a recording with fewer than min_votes is no candidate, so the others are left
+// out where they are fewer than that beside the first one's recording. Yields how many are kept.
+fn main_votes(s: &mut [i64], v: usize, q: PanakoQuery) -> usize
+    requires { ⌜ v ≤ length (now s) ⌝ }
+    ensures { λ r. ⌜ (take r (now (s .exit)) ≡ mainIn q (take v (now (s .entry)))) × (r ≤ v) ⌝ }
+{
+    let cfg = q.cfg;
+    keeping::keep_main(s, v, LOWEST, 52, maps::wide(cfg.min_votes))
 }
 
 // The bins of the first v words, where these are votes of one recording and the bins are few, as in most queries that are answered: no order is asked
@@ -96,12 +106,13 @@ fn best_candidate(
     ensures { λ r. ⌜ bestSoFar r ≡ bestIn q (now (refs .entry)) (wordsIn q (now (refs .entry)) (now (posts .entry)) (now (hashes .entry))) ⌝ }
 {
     let v = panako_voting::gather(s, posts, p, hashes, q.q_len, starts, ends, which, g);
-    let n = few_bins(s, v);
+    let m = main_votes(s, v, q);
+    let n = few_bins(s, m);
     if 0 < n {
-        return best_of_few(s, v, n, refs, q);
+        return best_of_few(s, m, n, refs, q);
     }
-    sorting::sort_words(s, v);
-    best_of(s, v, refs, q)
+    sorting::sort_words(s, m);
+    best_of(s, m, refs, q)
 }
 
 // The answer of a query to which no refusal before 8 applies. An accepted one leaves zeros in the scratch. `starts` comes in with zeros.

@@ -1,18 +1,23 @@
--- `panako_querying::best_candidate` meets its contract: votes of one recording with few bins are judged as they stand; sorting changes the order of the
--- votes alone. Assumes nothing.
-use mathlib.Core.Path.{_≡_, ap, ap₂, _∙_}
+-- `panako_querying::best_candidate` meets its contract: votes that decide nothing are left out; votes of one recording with few bins are judged as they
+-- stand; sorting changes the order of the votes alone. Assumes nothing.
+use mathlib.Core.Path.{_≡_, sym, ap, ap₂, _∙_}
 use mathlib.Core.List.{List}
-use Prim.Native.Nat.{ℕ}
+use Prim.Native.Nat.{ℕ, _*_, _≤_}
 use native.Mathlib.Omega.{arith}
 use lib.IntN.{ℤ}
 use lib.ListN.{length, take}
+use lib.Seq.{length-take-le}
+use Rattle.lists.specs.Lists.{All}
 use Rattle.lists.specs.Entries.{entries}
 use Rattle.sorting.specs.Sort.{sortZ}
 use Rattle.panako_vote.specs.declared.ScaleGrid.{ScaleGrid}
+use Rattle.keeping.proofs.Mains.{main-all}
 use Rattle.candidates.proofs.Sorted.{sorted-best}
+use Rattle.panako_judging.specs.Candidates.{lowest}
 use Rattle.panako_voting.specs.Gathered as votes-of
-use Rattle.panako_querying.specs.Candidates.{reading, bestIn, hashesIn, wordsIn}
-use Rattle.panako_querying.proofs.Sorted.{sorted-votes, first-known}
+use Rattle.panako_querying.specs.Candidates.{reading, bestIn, hashesIn, wordsIn, mainIn, Known}
+use Rattle.panako_querying.proofs.Main.{main-best}
+use Rattle.panako_querying.proofs.Sorted.{all-known, sorted-votes, first-known}
 use Rattle.panako_querying.proofs.Turns.{fair}
 use borrow.Author.Needs.{needs}
 use Rattle.panako_querying.proofs.best_candidate.Statement.{statement}
@@ -38,32 +43,60 @@ module _ (c : tie.After-gather) where
   gathered : take (c .gather .result) (c .gather .last .0) ≡ words
   gathered = c .gather .ensures .1 ∙ named
 
+-- after the choice of the votes that decide
+module _ (m : tie.After-main-votes) where
+  abbrev g : tie.After-gather
+  g = m .before .before .before .before .before
+
+  abbrev mains : List ℤ
+  mains = mainIn (s g .args .q) (words g)
+
+  chosen : take (m .main-votes .result) (m .main-votes .last .0) ≡ mains
+  chosen = m .main-votes .ensures .0 ∙ ap (mainIn (s g .args .q)) (gathered g)
+
+  room : 5 * m .main-votes .result ≤ length (m .main-votes .last .0)
+  room = omega (arith, m .main-votes .ensures .1, m .main-votes .kept .0, many g, g .gather .kept .0, s g .pre .4)
+
+  most : m .main-votes .result ≡ length mains
+  most = sym (length-take-le (m .main-votes .result) (m .main-votes .last .0) (omega (arith, room))) ∙ ap length chosen
+
+  few : m .main-votes .result ≤ 1000000
+  few = omega (arith, m .main-votes .ensures .1, many g, s g .pre .3)
+
+  known : All (Known (s g .args .refs .now)) mains
+  known =
+      let a = s g .args in
+      let third = g .before .before .before .before .before .before in
+      main-all lowest 52 (a .q .cfg .«min_votes») (words g) (Known (a .refs .now))
+      (all-known (a .refs .now) (a .posts .now) (a .hashes .now) (a .q) (s g .pre .0) (λ i. omega (arith, third .before .shared-slice-known2 .given i)) (λ i. omega (arith, third .shared-slice-known3 .given i)))
+
 -- after the look for few bins: the votes are as they were
 module _ (f : tie.After-few-bins) where
-  abbrev g : tie.After-gather
-  g = f .before .before .before .before .before
+  abbrev m : tie.After-main-votes
+  m = f .before .before .before
 
-  kept : take (g .gather .result) (f .few-bins .last .0) ≡ words g
-  kept = f .few-bins .ensures .1 .0 ∙ gathered g
+  kept : take (m .main-votes .result) (f .few-bins .last .0) ≡ mains m
+  kept = f .few-bins .ensures .1 .0 ∙ chosen m
+
+main-votes-requires : tie.Need-main-votes-requires
+main-votes-requires c κs =
+    let k = c .before .before .before .before in
+    omega (arith, many k, k .gather .kept .0, s k .pre .4)
 
 few-bins-requires : tie.Need-few-bins-requires
-few-bins-requires c κs =
-    let k = c .before .before .before .before in
-    (omega (arith, many k, k .gather .kept .0, s k .pre .4), omega (arith, many k, s k .pre .3))
+few-bins-requires c κs = let k = c .before .before in (room k, few k)
 
 best-of-few-requires : tie.Need-best-of-few-requires
 best-of-few-requires c κs =
     let t = c .before in
     let f = t .before .before in
-    let k = g f in
-    let o = s k in
-    let third = k .before .before .before .before .before .before in
+    let k = m f in
+    let o = s (g k) in
     let a = f .few-bins .ensures .0 (omega (arith, t .if1 .taken)) in (
       o .pre .0 .limits,
       a,
-      first-known (o .args .refs .now) (o .args .posts .now) (o .args .hashes .now) (o .args .q) (o .pre .0) (λ i. omega (arith, third .before .shared-slice-known2 .given i)) (λ i. omega (arith, third .shared-slice-known3 .given i))
-          (f .few-bins .last .0) (k .gather .result) (many k) (kept f) (a .votes .some),
-      omega (arith, many k, o .pre .3),
+      first-known (o .args .refs .now) (o .args .q) (mains k) (known k) (f .few-bins .last .0) (k .main-votes .result) (most k) (kept f) (a .votes .some),
+      few k,
     )
 
 same-length : tie.Need-same-length
@@ -75,24 +108,23 @@ same-length-2 c = search needs
 returns : tie.Need-returns
 returns c =
     let f = c .before .before .before .before in
-    let o = s (g f) in
-    c .best-of-few .ensures ∙ ap (bestIn (o .args .q) (o .args .refs .now)) (kept f)
+    let k = g (m f) in
+    let a = s k .args in
+    c .best-of-few .ensures ∙ ap (bestIn (a .q) (a .refs .now)) (kept f) ∙ main-best (a .q) (a .refs .now) (words k)
 
 sort-words-requires : tie.Need-sort-words-requires
 sort-words-requires c κs =
     let f = c .before .before .before in
-    let k = g f in
-    omega (arith, many k, k .gather .kept .0, f .few-bins .kept .0, s k .pre .4)
+    omega (arith, room (m f), f .few-bins .kept .0)
 
 best-of-requires : tie.Need-best-of-requires
 best-of-requires c κs =
     let sorted = c .before .before .sort-words in
     let f = c .before .before .before .before .before .before in
-    let k = g f in
-    let o = s k in
-    let third = k .before .before .before .before .before .before in
-    sorted-votes (o .args .refs .now) (o .args .posts .now) (o .args .hashes .now) (o .args .q) (o .pre .0) (λ i. omega (arith, third .before .shared-slice-known2 .given i)) (λ i. omega (arith, third .shared-slice-known3 .given i))
-    (sorted .last .0) (k .gather .result) (many k) (sorted .ensures .0 ∙ ap sortZ (kept f)) (omega (arith, many k, o .pre .3)) (omega (arith, many k, sorted .kept .0, f .few-bins .kept .0, k .gather .kept .0, o .pre .4))
+    let k = m f in
+    let o = s (g k) in
+    sorted-votes (o .args .refs .now) (o .args .q) (mains k) (known k) (sorted .last .0) (k .main-votes .result) (most k)
+    (o .pre .0 .limits) (sorted .ensures .0 ∙ ap sortZ (kept f)) (few k) (omega (arith, sorted .kept .0, f .few-bins .kept .0, room k))
 
 same-length-3 : tie.Need-same-length-3
 same-length-3 c = search needs
@@ -104,15 +136,18 @@ returns-2 : tie.Need-returns-2
 returns-2 c =
     let sorted = c .before .before .before .before .sort-words in
     let f = c .before .before .before .before .before .before .before .before in
-    let k = g f in
-    let o = s k in
-    c .before .best-of .ensures ∙ sorted-best (words k) (sorted .last .0) (k .gather .result) (many k) (sorted .ensures .0 ∙ ap sortZ (kept f)) (reading (o .args .q)) (fair (o .args .q)) (o .args .refs .now)
+    let k = m f in
+    let a = s (g k) .args in
+    c .before .best-of .ensures
+    ∙ sorted-best (mains k) (sorted .last .0) (k .main-votes .result) (most k) (sorted .ensures .0 ∙ ap sortZ (kept f)) (reading (a .q)) (fair (a .q)) (a .refs .now)
+    ∙ main-best (a .q) (a .refs .now) (words (g k))
 
 pub best-candidate-spec : {M : Type 1} → statement M
 best-candidate-spec =
     tie.close
     (tie.spec
     gather-requires
+    main-votes-requires
     few-bins-requires
     best-of-few-requires
     same-length
