@@ -30,6 +30,10 @@ macro_rules! checks {
                 every_end::<$index>,
             );
             $run.check(concat!($name, ", a few bins"), few_bins::<$index>);
+            $run.check(
+                concat!($name, ", some votes of others"),
+                votes_of_others::<$index>,
+            );
             $run.check(concat!($name, ", many votes"), many_votes::<$index>);
             $run.check(concat!($name, ", histories"), histories::<$index>);
             $run.check(
@@ -499,6 +503,59 @@ fn few_bins<I: Asked>(check: &mut Check) {
         let given = trial.call(check, met, Call::Query(query));
         assert_eq!(given[0], 4, "there are votes");
     }
+}
+
+/// Votes of one recording in so many bins, and some of two others, about as
+/// many as `min_votes`: fewer decide nothing. A vote of theirs may come first.
+fn votes_of_others<I: Asked>(check: &mut Check) {
+    const OTHERS: u32 = 1000;
+    let met = &mut Met::default();
+    let posting = |key| [key, 5000, 5030, 5100].into_iter().take(I::HASH);
+    let postings = |keys: std::ops::Range<u32>| keys.flat_map(posting).collect();
+    let mut trial = Trial::<I>::empty(Sizes::new(3, 112, 1));
+    trial.expect(check, met, insert(postings(0..100)), stored(0));
+    let second = OTHERS + 6;
+    trial.expect(check, met, insert(postings(OTHERS..second)), stored(1));
+    trial.expect(check, met, insert(postings(second..second + 6)), stored(2));
+    let mut best = [0; 3];
+    let mut none = 0;
+    for _ in check.times(20_000) {
+        let rng = &mut check.rng;
+        let votes = rng.pick(&[1, 2, 5, 6, 7, 30, 100]);
+        let bins = rng.pick(&[1, 2, 6, 7, 20, 40]);
+        let apart = rng.pick(&[1, 2, 50]);
+        let hash = |key, bin| {
+            let anchor = 4000 + apart * bin;
+            [key, anchor, anchor + 30, anchor + 100]
+                .into_iter()
+                .take(I::HASH)
+                .collect::<Vec<u32>>()
+        };
+        let mut hashes: Vec<Vec<u32>> = (0..votes)
+            .map(|key| hash(key, rng.below(bins) as u32))
+            .collect();
+        let others = rng.below(13) as u32;
+        for other in 0..others {
+            let place = rng.below(hashes.len() as u64 + 1) as usize;
+            let key = OTHERS + (other * 7) % 12;
+            hashes.insert(place, hash(key, rng.below(2) as u32));
+        }
+        let mut query = query(hashes.concat(), rng.pick(&[0, 1, 5]));
+        let around = [others.saturating_sub(1), others, others + 1];
+        query.settings.min_votes = match rng.below(2) {
+            0 => rng.pick(&around),
+            _ => rng.below(8) as u32,
+        };
+        let asked = query.with_room::<I>(rng, votes as usize + 12);
+        let given = trial.call(check, met, Call::Query(asked));
+        let count = match given[0] {
+            4 => &mut best[given[1] as usize],
+            _ => &mut none,
+        };
+        *count += 1;
+    }
+    check.note(format!("best {best:?}, none {none}"));
+    assert!(best.iter().all(|&best| best > 0) && none > 0);
 }
 
 // ---- many votes
