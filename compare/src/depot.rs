@@ -36,12 +36,32 @@ struct Card {
     turns: usize,
 }
 
+/// All spans have 20 frames.
+const ALIKE: [u32; 2] = [20, 1];
+
+impl Card {
+    /// Its lists, their spans where these vary, and the speed where it isn't
+    /// theirs.
+    fn title(self) -> String {
+        let [least, lengths] = self.spans;
+        let spans = match self.spans {
+            ALIKE => String::new(),
+            _ => format!(", spans {least} to {}", least + lengths - 1),
+        };
+        let times = match self.percent {
+            100 => String::new(),
+            percent => format!(", times {percent} %"),
+        };
+        format!("{}{spans}{times}", self.name)
+    }
+}
+
 const SCHOOL: Card = Card {
     name: "30 × 30, 22 bits",
     lists: 30,
     hashes: 30,
     bits: 22,
-    spans: [20, 1],
+    spans: ALIKE,
     percent: 100,
     sizes: Sizes {
         rows: 32,
@@ -70,7 +90,7 @@ const fn depot(name: &'static str, lists: usize, bits: u32, postings: usize) -> 
         lists,
         hashes: 3000,
         bits,
-        spans: [20, 1],
+        spans: ALIKE,
         percent: 100,
         sizes: Sizes {
             rows: 512,
@@ -330,60 +350,31 @@ fn queries(only: Option<&str>) {
 /// Panako's queries at other speeds. Spans of 20 frames are heard as one length
 /// at some, and as two at the others.
 fn speeds() -> Vec<String> {
-    let alike = [20, 1];
-    let varied = [5, 36];
-    let [school, clinic] = [(SCHOOL, 30, Room::Votes(256)), (CLINIC, 300, Room::Met)];
-    let rows = [
-        (school, "30 × 30, 22 bits, times 90 %", alike, 90),
-        (school, "30 × 30, 22 bits, times 97 %", alike, 97),
-        (school, "30 × 30, 22 bits, times 103 %", alike, 103),
-        (school, "30 × 30, 22 bits, times 107 %", alike, 107),
-        (school, "30 × 30, 22 bits, times 110 %", alike, 110),
-        (school, "30 × 30, 22 bits, spans 5 to 40", varied, 100),
-        (
-            school,
-            "30 × 30, 22 bits, spans 5 to 40, times 90 %",
-            varied,
-            90,
-        ),
-        (
-            school,
-            "30 × 30, 22 bits, spans 5 to 40, times 97 %",
-            varied,
-            97,
-        ),
-        (
-            school,
-            "30 × 30, 22 bits, spans 5 to 40, times 103 %",
-            varied,
-            103,
-        ),
-        (
-            school,
-            "30 × 30, 22 bits, spans 5 to 40, times 110 %",
-            varied,
-            110,
-        ),
-        (clinic, "30 × 300, 22 bits, times 97 %", alike, 97),
-        (clinic, "30 × 300, 22 bits, times 103 %", alike, 103),
-        (clinic, "30 × 300, 22 bits, times 110 %", alike, 110),
-        (
-            clinic,
-            "30 × 300, 22 bits, spans 5 to 40, times 103 %",
-            varied,
-            103,
-        ),
+    const VARIED: [u32; 2] = [5, 36];
+    let school = [
+        (ALIKE, 90),
+        (ALIKE, 97),
+        (ALIKE, 103),
+        (ALIKE, 107),
+        (ALIKE, 110),
+        (VARIED, 100),
+        (VARIED, 90),
+        (VARIED, 97),
+        (VARIED, 103),
+        (VARIED, 110),
     ];
-    let row = |((card, hashes, room), name, spans, percent)| {
+    let clinic = [(ALIKE, 97), (ALIKE, 103), (ALIKE, 110), (VARIED, 103)];
+    let row = |card, hashes, room, (spans, percent)| {
         let card = Card {
-            name,
             spans,
             percent,
             ..card
         };
         measure_queries::<Panako>("PanakoIndex", card, hashes, room)
     };
-    rows.into_iter().filter_map(row).collect()
+    let small = school.map(|speed| row(SCHOOL, 30, Room::Votes(256), speed));
+    let longer = clinic.map(|speed| row(CLINIC, 300, Room::Met, speed));
+    small.into_iter().chain(longer).flatten().collect()
 }
 
 /// A part of a list as it is heard: from its own begin, a hash in four lost
@@ -572,7 +563,7 @@ fn measure_queries<I: Index>(name: &str, card: Card, hashes: usize, room: Room) 
         (0..card.batch).map(&mut ask).collect()
     })?;
     let met = met.iter().sum::<f64>() / met.len() as f64;
-    Some(query_row(name, card.name, hashes, met, room, times))
+    Some(query_row(name, &card.title(), hashes, met, room, times))
 }
 
 /// Hashes under one key, `apart` frames apart.

@@ -10,6 +10,7 @@ use crate::store::{HEADER, Index, Panako, ROW, Sizes, Wang};
 use crate::tally::Tally;
 use crate::trial::{Met, Trial};
 use audiofp::matching::MatchResult;
+use std::ops::Range;
 
 macro_rules! checks {
     ($run:ident, $index:ty, $name:literal) => {
@@ -462,16 +463,22 @@ fn every<I: Asked>(
 
 // ---- a few bins
 
+/// A hash with this key, anchor and, in Panako, span.
+fn hash<I: Index>(key: u32, anchor: u32, span: u32) -> Vec<u32> {
+    let words = [key, anchor, anchor + 30, anchor + span];
+    words.into_iter().take(I::HASH).collect()
+}
+
 /// Votes of one recording, or of two, in so many bins: about the numbers up to
 /// which Panako's bins are counted with no sort, and their sums kept.
 fn few_bins<I: Asked>(check: &mut Check) {
     const OTHER: u32 = 1000;
     let met = &mut Met::default();
-    let posting = |key| [key, 5000, 5030, 5100].into_iter().take(I::HASH);
+    let posting = |key| hash::<I>(key, 5000, 100);
     let mut trial = Trial::<I>::empty(Sizes::new(2, 101, 1));
     let hashes = (0..100).flat_map(posting).collect();
     trial.expect(check, met, insert(hashes), stored(0));
-    trial.expect(check, met, insert(posting(OTHER).collect()), stored(1));
+    trial.expect(check, met, insert(posting(OTHER)), stored(1));
     for _ in check.times(20_000) {
         let rng = &mut check.rng;
         let votes = rng.pick(&[1, 2, 20, 63, 64, 65, 66, 100]);
@@ -479,12 +486,7 @@ fn few_bins<I: Asked>(check: &mut Check) {
         let apart = rng.pick(&[1, 2, 50]);
         let span = rng.pick(&[100, 96, 105]);
         let first = rng.below(100) as u32;
-        let hash = |key, bin| {
-            let anchor = 4000 + apart * bin;
-            [key, anchor, anchor + 30, anchor + span]
-                .into_iter()
-                .take(I::HASH)
-        };
+        let heard = |key, bin: u32| hash::<I>(key, 4000 + apart * bin, span);
         // As many bins as are asked for, where there are votes enough.
         let mut hashes: Vec<u32> = (0..votes)
             .flat_map(|vote| {
@@ -492,11 +494,11 @@ fn few_bins<I: Asked>(check: &mut Check) {
                     vote if vote < bins => vote,
                     _ => rng.below(bins.into()) as u32,
                 };
-                hash((first + vote) % 100, bin)
+                heard((first + vote) % 100, bin)
             })
             .collect();
         if rng.below(4) == 0 {
-            hashes.extend(hash(OTHER, bins));
+            hashes.extend(heard(OTHER, bins));
         }
         let tolerance = rng.pick(&[0, 1, 2, 4, 5, 60]);
         let query = query(hashes, tolerance).with_room::<I>(rng, votes as usize + 1);
@@ -510,8 +512,8 @@ fn few_bins<I: Asked>(check: &mut Check) {
 fn votes_of_others<I: Asked>(check: &mut Check) {
     const OTHERS: u32 = 1000;
     let met = &mut Met::default();
-    let posting = |key| [key, 5000, 5030, 5100].into_iter().take(I::HASH);
-    let postings = |keys: std::ops::Range<u32>| keys.flat_map(posting).collect();
+    let posting = |key| hash::<I>(key, 5000, 100);
+    let postings = |keys: Range<u32>| keys.flat_map(posting).collect();
     let mut trial = Trial::<I>::empty(Sizes::new(3, 112, 1));
     trial.expect(check, met, insert(postings(0..100)), stored(0));
     let second = OTHERS + 6;
@@ -524,21 +526,13 @@ fn votes_of_others<I: Asked>(check: &mut Check) {
         let votes = rng.pick(&[1, 2, 5, 6, 7, 30, 100]);
         let bins = rng.pick(&[1, 2, 6, 7, 20, 40]);
         let apart = rng.pick(&[1, 2, 50]);
-        let hash = |key, bin| {
-            let anchor = 4000 + apart * bin;
-            [key, anchor, anchor + 30, anchor + 100]
-                .into_iter()
-                .take(I::HASH)
-                .collect::<Vec<u32>>()
-        };
-        let mut hashes: Vec<Vec<u32>> = (0..votes)
-            .map(|key| hash(key, rng.below(bins) as u32))
-            .collect();
+        let heard = |key, bin: u64| hash::<I>(key, 4000 + apart * bin as u32, 100);
+        let mut hashes: Vec<Vec<u32>> = (0..votes).map(|key| heard(key, rng.below(bins))).collect();
         let others = rng.below(13) as u32;
         for other in 0..others {
             let place = rng.below(hashes.len() as u64 + 1) as usize;
             let key = OTHERS + (other * 7) % 12;
-            hashes.insert(place, hash(key, rng.below(2) as u32));
+            hashes.insert(place, heard(key, rng.below(2)));
         }
         let mut query = query(hashes.concat(), rng.pick(&[0, 1, 5]));
         let around = [others.saturating_sub(1), others, others + 1];
@@ -563,13 +557,8 @@ fn votes_of_others<I: Asked>(check: &mut Check) {
 /// `count` hashes of one key, as a recording or a query has them: Panako
 /// spans are alike, so that all of them vote.
 fn like<I: Index>(rng: &mut Rng, key: u32, count: usize, latest: u64) -> Vec<u32> {
-    let hash = |_| {
-        let anchor = rng.below(latest) as u32;
-        [key, anchor, anchor + 30, anchor + 100]
-            .into_iter()
-            .take(I::HASH)
-    };
-    (0..count).flat_map(hash).collect()
+    let one = |_| hash::<I>(key, rng.below(latest) as u32, 100);
+    (0..count).flat_map(one).collect()
 }
 
 fn many_votes<I: Asked>(check: &mut Check) {
