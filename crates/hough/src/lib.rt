@@ -28,7 +28,7 @@ const ROW: u64 = 0x200_0000_0000;
 const MIDDLE: i64 = 0x100_0000_0000;
 
 // For so few bins, looking at every pair is cheaper than sliding windows.
-pub const FEW: usize = 32;
+const FEW: usize = 32;
 
 // And with so small a tolerance, so is looking at every offset within it.
 const NEAR: u64 = 4;
