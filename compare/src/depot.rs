@@ -372,9 +372,12 @@ fn speeds() -> Vec<String> {
         };
         measure_queries::<Panako>("PanakoIndex", card, hashes, room)
     };
+    let depot = [(ALIKE, 103), (VARIED, 103)];
     let small = school.map(|speed| row(SCHOOL, 30, Room::Votes(256), speed));
     let longer = clinic.map(|speed| row(CLINIC, 300, Room::Met, speed));
-    small.into_iter().chain(longer).flatten().collect()
+    let large = LARGE.map(|card| depot.map(|speed| row(card, 300, Room::Met, speed)));
+    let rows = small.into_iter().chain(longer);
+    rows.chain(large.into_iter().flatten()).flatten().collect()
 }
 
 /// A part of a list as it is heard: from its own begin, a hash in four lost

@@ -11,20 +11,8 @@ use Rattle.lists.specs.Lists.{keep}
 use Rattle.lists.proofs.Keep.{keep-nil, keep-more}
 use Rattle.lists.proofs.Tests.{test}
 use Rattle.maps.specs.Sums.{when}
-use Rattle.maps.specs.Lists.{count}
-use Rattle.maps.proofs.Sums.{sum-next}
-use Rattle.maps.proofs.Lists.{sum-count}
 
 module _ (p : ℤ → Bool) where
-  pub count-none : (l : List ℤ) → 0 ≡ count p (take 0 l)
-  unfolding count
-  count-none l = refl
-
-  pub count-more : (l : List ℤ) (i n b : ℕ) → i < length l → n ≡ count p (take i l) → b ≡ when (p (getD l i (pos 0))) 1 → n + b ≡ count p (take (i + 1) l)
-  count-more l i n b h e q =
-      let f : ℕ → ℕ = λ j. when (p (getD l j (pos 0))) 1 in
-      omega (arith, sum-count p (pos 0) l i (omega arith), sum-count p (pos 0) l (i + 1) (omega arith), sum-next f i)
-
   pub record Kept (l₀ l : List ℤ) (n i : ℕ) : Type 0 where
     pub below : n ≤ i
     pub size : length l ≡ length l₀

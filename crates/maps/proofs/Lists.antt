@@ -1,5 +1,5 @@
 -- Laws of counting the elements that pass a test. Assumes nothing.
-use Prim.Native.Nat.{ℕ, zero, suc, _+_, _≤_}
+use Prim.Native.Nat.{ℕ, zero, suc, _+_, _≤_, _<_}
 use mathlib.Core.Path.{_≡_, refl, ap, _∙_}
 use mathlib.Core.Bool.{Bool}
 use mathlib.Core.List.{List, [], _∷_, _++_}
@@ -31,3 +31,15 @@ module _ {A : Type 0} where
       let ih = sum-count p d xs n (omega arith) in
       let a = ap (count p) (take-suc xs n d h) ∙ count-append p (take n xs) (getD xs n d ∷ []) in
       omega (arith, a, ih)
+
+  -- a walk that counts
+  pub count-start : (p : A → Bool) (xs : List A) → 0 ≡ count p (take 0 xs)
+  unfolding count
+  count-start p xs = refl
+
+  pub count-step : (p : A → Bool) (d : A) (xs : List A) (i n b : ℕ) → i < length xs → n ≡ count p (take i xs) → b ≡ when (p (getD xs i d)) 1 → n + b ≡ count p (take (i + 1) xs)
+  unfolding count
+  count-step p d xs i n b h e q =
+      let k : i + 1 ≡ suc i = omega arith in
+      let a = ap (count p) (take-suc xs i d h) ∙ count-append p (take i xs) (getD xs i d ∷ []) in
+      rw k (omega (arith, a))

@@ -2,10 +2,11 @@
 use mathlib.Core.Path.{_≡_}
 use Prim.Native.Nat.{_-_, _≤_}
 use native.Mathlib.Omega.{arith}
+use lib.IntN.{pos}
 use lib.ListN.{take}
 use Rattle.maps.specs.Lists.{count}
 use Rattle.keeping.specs.Main.{hasLead}
-use Rattle.keeping.proofs.Kept.{count-none, count-more}
+use Rattle.maps.proofs.Lists.{count-start, count-step}
 use borrow.Author.Needs.{needs}
 use Rattle.keeping.proofs.count_lead.Statement.{statement}
 use Rattle.keeping.proofs.count_lead.Tie as tie
@@ -17,7 +18,7 @@ abbrev μ-loop : tie.MeasureT-loop
 μ-loop s v low bits lead n₀ i₀ n i = v - i
 
 loop-holds : tie.Need-loop-holds Inv-loop μ-loop
-loop-holds c = (omega arith, omega arith, count-none _ (c .args .s .now))
+loop-holds c = (omega arith, omega arith, count-start _ (c .args .s .now))
 
 has-lead-requires : tie.Need-has-lead-requires Inv-loop μ-loop
 has-lead-requires c κs = search needs
@@ -36,7 +37,7 @@ loop-again c =
     let l = c .before .before .loop in
     let o = c .before .before .before in
     let h = c .has-lead .ensures in
-    (omega (arith, c .before .loop-test .taken), omega (arith, l .inv .1, h .1), count-more _ (o .args .s .now) (l .i) (l .n) _ (omega (arith, c .before .loop-test .taken, o .pre .0)) (l .inv .2) (h .0))
+    (omega (arith, c .before .loop-test .taken), omega (arith, l .inv .1, h .1), count-step _ (pos 0) (o .args .s .now) (l .i) (l .n) _ (omega (arith, c .before .loop-test .taken, o .pre .0)) (l .inv .2) (h .0))
 
 returns : tie.Need-returns Inv-loop μ-loop
 returns c =
