@@ -9,7 +9,7 @@ use lib.ListN.{length, getD, take, drop, length-drop}
 use lib.Seq.{getD-take, getD-drop}
 use Rattle.lists.proofs.Keep.{all-at}
 use Rattle.maps.specs.Sums.{sumTo, when}
-use Rattle.maps.specs.Lists.{count}
+use Rattle.maps.specs.Lists.{countIf}
 use Rattle.maps.specs.Bins.{offset, votes, place}
 use Rattle.maps.proofs.Sums.{sum-cong}
 use Rattle.maps.proofs.Lists.{sum-count}
@@ -22,13 +22,13 @@ use Rattle.bins.proofs.Binning.{codes-length, codes-each}
 
 -- ---- what words say, counted by index
 
-pub count-map : {A B : Type 0} (f : A → B) (p : B → Bool) (xs : List A) → count p (map f xs) ≡ count (λ x. p (f x)) xs
-unfolding count
+pub count-map : {A B : Type 0} (f : A → B) (p : B → Bool) (xs : List A) → countIf p (map f xs) ≡ countIf (λ x. p (f x)) xs
+unfolding countIf
 count-map f p [] = refl
 count-map f p (x ∷ xs) = ap (λ (n : ℕ). when (p (f x)) 1 + n) (count-map f p xs)
 
 pub count-words : {A : Type 0} (v : ℤ → A) (p : A → Bool) (s : List ℤ) (a g : ℕ) → a + g ≤ length s
-    → count p (map v (take g (drop a s))) ≡ sumTo (λ t. when (p (v (getD s (a + t) (pos 0)))) 1) g
+    → countIf p (map v (take g (drop a s))) ≡ sumTo (λ t. when (p (v (getD s (a + t) (pos 0)))) 1) g
 count-words v p s a g h =
     count-map v p (take g (drop a s))
     ∙ sym (sum-count (λ z. p (v z)) (pos 0) (drop a s) g (omega (arith, length-drop a s)))

@@ -17,7 +17,7 @@ use Rattle.lists.proofs.Tests.{test}
 use Rattle.lists.proofs.Keep.{all-imp, all-of, all-at, all-make, all-map, all-of-key, key-of-all, some-none, flat-append, flat-one, length-flat, map-same}
 use Rattle.lists.proofs.Ascending.{ascending-at, ascending-ext, member-insertKey, ascending-insertKey}
 use Rattle.maps.specs.Sums.{sumTo, when}
-use Rattle.maps.specs.Lists.{count}
+use Rattle.maps.specs.Lists.{countIf}
 use Rattle.maps.proofs.Sums.{sum-add, sum-cong, sum-none}
 use Rattle.maps.proofs.Lists.{count-append}
 use Rattle.bins.specs.Codes.{width, occupied, votesAt, binWords, binsOf}
@@ -27,17 +27,17 @@ use Rattle.bins.proofs.Sparse.{Off, sparse-sum, one-of, when-none}
 -- ---- counting
 
 module _ {A : Type 0} (p : A → Bool) where
-  count-none : (xs : List A) → All (λ x. p x ≡ false) xs → count p xs ≡ 0
-  unfolding count
+  count-none : (xs : List A) → All (λ x. p x ≡ false) xs → countIf p xs ≡ 0
+  unfolding countIf
   count-none [] h = refl
   count-none (x ∷ xs) h = let ih = count-none xs (h .1) in rw (h .0) (omega arith)
 
-  count-all : (xs : List A) → All (λ x. p x ≡ true) xs → count p xs ≡ length xs
-  unfolding count
+  count-all : (xs : List A) → All (λ x. p x ≡ true) xs → countIf p xs ≡ length xs
+  unfolding countIf
   count-all [] h = refl
   count-all (x ∷ xs) h = let ih = count-all xs (h .1) in rw (h .0) (omega arith)
 
-pub length-counts : {A : Type 0} (xs : List A) → count (λ x. true) xs ≡ length xs
+pub length-counts : {A : Type 0} (xs : List A) → countIf (λ x. true) xs ≡ length xs
 length-counts xs = count-all (λ x. true) xs (all-of (λ x. true ≡ true) (λ x. refl) xs)
 
 -- ---- the codes
@@ -48,7 +48,7 @@ occupied-ascend [] = tt
 occupied-ascend (k ∷ ks) = ascending-insertKey k (occupied ks) (occupied-ascend ks)
 
 pub occupied-member : (k : ℕ) (ks : List ℕ) → member k (occupied ks) ≡ ltb 0 (votesAt ks k)
-unfolding occupied count some?
+unfolding occupied countIf some?
 occupied-member k [] = refl
 occupied-member k (x ∷ ks) =
     let ih = occupied-member k ks in
@@ -99,8 +99,8 @@ when-add true m n = refl
 when-add false m n = refl
 
 -- over all numbers below w
-spread : (p : ℕ → Bool) (w : ℕ) (ks : List ℕ) → All (λ k. k < w) ks → sumTo (λ x. when (p x) (votesAt ks x)) w ≡ count p ks
-unfolding count
+spread : (p : ℕ → Bool) (w : ℕ) (ks : List ℕ) → All (λ k. k < w) ks → sumTo (λ x. when (p x) (votesAt ks x)) w ≡ countIf p ks
+unfolding countIf
 spread p w [] h = sum-none (λ x. when (p x) 0) w (λ x l. when-none (p x))
 spread p w (k ∷ ks) h =
     let ih = spread p w ks (h .1) in
@@ -127,7 +127,7 @@ module _ (ks : List ℕ) where
       omega (arith, ltb-false 0 (votesAt ks x) (sym (occupied-member x ks) ∙ m))
 
   -- whatever is asked of a code, as many votes pass
-  pub keys-held : (w : ℕ) → All (λ k. k < w) ks → (p : ℕ → Bool) → sumTo (λ j. when (p (key j)) (votesAt ks (key j))) keys ≡ count p ks
+  pub keys-held : (w : ℕ) → All (λ k. k < w) ks → (p : ℕ → Bool) → sumTo (λ j. when (p (key j)) (votesAt ks (key j))) keys ≡ countIf p ks
   keys-held w h p =
       sym (sparse-sum key w keys (record { asc = keys-up; top = all-at (λ k. k < w) (occupied ks) 0 (occupied-all (λ k. k < w) ks h) }) (λ x. when (p x) (votesAt ks x))
       (λ x l o. ap (when (p x)) (off x o) ∙ when-none (p x)))
@@ -135,7 +135,7 @@ module _ (ks : List ℕ) where
 
 -- ---- votes with the same counts
 
-module _ (ks ls : List ℕ) (same : (p : ℕ → Bool) → count p ks ≡ count p ls) where
+module _ (ks ls : List ℕ) (same : (p : ℕ → Bool) → countIf p ks ≡ countIf p ls) where
   pub occupied-same : occupied ks ≡ occupied ls
   occupied-same =
       ascending-ext (occupied ks) (occupied ls) (occupied-ascend ks) (occupied-ascend ls)

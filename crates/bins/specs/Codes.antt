@@ -8,7 +8,7 @@ use lib.IntN.{ℤ, pos, negℤ, _+ℤ_}
 use lib.ListN.{length, getD, set, take, drop}
 use lib.Dec.{eqb}
 use Rattle.lists.specs.Lists.{flat, insertKey}
-use Rattle.maps.specs.Lists.{count}
+use Rattle.maps.specs.Lists.{countIf}
 use Rattle.bins.specs.Votes.{above, leadOf}
 use Rattle.bins.specs.declared.Form.{Form}
 
@@ -51,7 +51,7 @@ occupied (k ∷ ks) = insertKey k (occupied ks)
 
 -- how often k is among them
 abbrev pub votesAt : List ℕ → ℕ → ℕ
-votesAt ks k = count (λ x. eqb x k) ks
+votesAt ks k = countIf (λ x. eqb x k) ks
 
 -- ---- bins as words
 

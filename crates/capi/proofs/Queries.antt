@@ -7,8 +7,8 @@ use Rattle.model.specs.Words.{Words}
 use Rattle.model.specs.Query.{Scheme, Query}
 use Rattle.model.specs.Calls.{query}
 use Rattle.model.specs.Run.{run}
-use Rattle.ranking.specs.declared.Finding.{Finding}
-use Rattle.ranking.specs.Answers.{findingAnswer, scratchAfter}
+use Rattle.query_rank.specs.declared.Finding.{Finding}
+use Rattle.query_rank.specs.Answers.{findingAnswer, scratchAfter}
 use Rattle.capi.specs.Answers.{answerWords}
 
 -- s′ and w are left by a call with q, which is q′

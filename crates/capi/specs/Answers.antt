@@ -5,11 +5,11 @@ use lib.Ieee.{binary32, toBits}
 use Rattle.matching.specs.declared.MatchResult.{MatchResult}
 use Rattle.model.specs.Calls.{Answer, built, stored, removed, count, best, nothing, refused}
 use Rattle.model.specs.Query.{Query}
-use Rattle.judging.specs.Scheme.{configOf, wang}
-use Rattle.querying.specs.Asked.{asked}
+use Rattle.wang_judge.specs.Scheme.{configOf, wang}
+use Rattle.wang_query.specs.Arguments.{queryWith}
 use Rattle.panako_vote.specs.declared.PanakoMatchConfig.{PanakoMatchConfig}
-use Rattle.panako_judging.specs.Scheme.{panako}
-use Rattle.panako_querying.specs.Asked as of-panako
+use Rattle.panako_judge.specs.Scheme.{panako}
+use Rattle.panako_query.specs.Arguments as of-panako
 use Rattle.capi.specs.Codes.{single, flag, twosComplement}
 
 abbrev pub caseWords : ℕ → ℕ → List ℕ
@@ -33,7 +33,7 @@ answerWords (refused n) = caseWords 6 n
 -- ---- a Wang query's settings, as words
 
 abbrev pub wangAsked : List ℕ → ℕ → ℕ → ℕ → ℕ → ℕ → ℕ → Query wang
-wangAsked hashes rate tolerance votes score prominence scratch = asked (configOf tolerance votes score prominence) (single rate) hashes scratch
+wangAsked hashes rate tolerance votes score prominence scratch = queryWith (configOf tolerance votes score prominence) (single rate) hashes scratch
 
 -- ---- and a Panako query's
 
@@ -50,4 +50,4 @@ panakoConfig min max bins tolerance votes score prominence = record {
 
 abbrev pub panakoAsked : List ℕ → ℕ → ℕ → ℕ → ℕ → ℕ → ℕ → ℕ → ℕ → ℕ → Query panako
 panakoAsked hashes rate min max bins tolerance votes score prominence scratch =
-    of-panako.asked (panakoConfig min max bins tolerance votes score prominence) (single rate) hashes scratch
+    of-panako.queryWith (panakoConfig min max bins tolerance votes score prominence) (single rate) hashes scratch

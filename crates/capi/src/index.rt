@@ -4,21 +4,21 @@ ghost use lib.ListN.{length};
 ghost use Rattle.model.specs.Calls.{build, insert, remove, liveCount, query};
 ghost use Rattle.model.specs.Run.{run};
 ghost use Rattle.soundness.specs.Scan.{words};
-ghost use Rattle.building.specs.Answers.{buildingAnswer};
-ghost use Rattle.insertion.specs.Insert.{insertionAnswer};
-ghost use Rattle.store.specs.Answers.{countAnswer, removalAnswer};
-ghost use Rattle.ranking.specs.Answers.{findingAnswer, scratchAfter};
-ghost use Rattle.judging.specs.Scheme.{wang};
-ghost use Rattle.panako_judging.specs.Scheme.{panako};
+ghost use Rattle.build.specs.Answers.{buildingAnswer};
+ghost use Rattle.insert.specs.Insert.{insertionAnswer};
+ghost use Rattle.remove.specs.Answers.{countAnswer, removalAnswer};
+ghost use Rattle.query_rank.specs.Answers.{findingAnswer, scratchAfter};
+ghost use Rattle.wang_judge.specs.Scheme.{wang};
+ghost use Rattle.panako_judge.specs.Scheme.{panako};
 ghost use Rattle.capi.specs.Answers.{bestWords, answerWords, wangAsked, panakoConfig, panakoAsked};
-use building::Building;
-use insertion::Insertion;
+use build::Building;
+use insert::Insertion;
 use matching::MatchResult;
 use panako::PanakoIndex;
 use panako_vote::PanakoMatchConfig;
-use ranking::Finding;
-use store::LiveCount;
-use store::Removal;
+use query_rank::Finding;
+use remove::LiveCount;
+use remove::Removal;
 use wang::WangIndex;
 
 // ---- answers as words
@@ -204,7 +204,7 @@ pub extern "C" fn wang_index_query(
     ensures { λ _. ⌜ now (answer .exit) ≡ answerWords (run wang (words (now (refs .entry)) (now (postings .entry)) (now (stopped .entry))) (query (wangAsked (now (hashes .entry)) rate tolerance «min_votes» «min_score» «min_prominence» (length (now (scratch .entry))))) .0) ⌝ }
     ensures { λ _. ⌜ now (scratch .exit) ≡ scratchAfter (run wang (words (now (refs .entry)) (now (postings .entry)) (now (stopped .entry))) (query (wangAsked (now (hashes .entry)) rate tolerance «min_votes» «min_score» «min_prominence» (length (now (scratch .entry))))) .0) (now (scratch .entry)) ⌝ }
 {
-    let cfg = judging::config_of(tolerance, min_votes, min_score, min_prominence);
+    let cfg = wang_judge::config_of(tolerance, min_votes, min_score, min_prominence);
     let fps = floats::f32_from_bits(rate);
     put_finding(
         answer,

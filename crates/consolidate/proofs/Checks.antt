@@ -15,7 +15,7 @@ use Rattle.maps.specs.Sums.{sumTo}
 use Rattle.lists.specs.Every.{every}
 use Rattle.lists.proofs.Tests.{and-left, and-right, or-else, or-right}
 use Rattle.lists.proofs.Every.{every-at, every-make}
-use Rattle.consolidate.specs.Box.{count}
+use Rattle.consolidate.specs.Box.{countOf}
 use Rattle.consolidate.specs.Limits.{Bins, binOk, binsOk, Span, endsOk, inSpan, spanOk}
 use Rattle.maps.proofs.Tests.{holds, is-true}
 
@@ -41,19 +41,19 @@ bins-of l n e =
     record {
       few = leb-true n 1000000 (and-left (leb n 1000000) (leb (2 * n) (length l) && every n (binOk l)) e);
       room = leb-true (2 * n) (length l) (and-left (leb (2 * n) (length l)) (every n (binOk l)) r);
-      close = λ i h. leb-true (natAbs (offset l i)) (2 ^ 33) (and-left (leb (natAbs (offset l i)) (2 ^ 33)) (nonNeg (count l i) && ltb (votes l i) (2 ^ 32)) (every-at (binOk l) n i all h));
-      counted = λ i h. holds (and-left (nonNeg (count l i)) (ltb (votes l i) (2 ^ 32)) (one i h all));
-      small = λ i h. ltb-true (votes l i) (2 ^ 32) (and-right (nonNeg (count l i)) (ltb (votes l i) (2 ^ 32)) (one i h all));
+      close = λ i h. leb-true (natAbs (offset l i)) (2 ^ 33) (and-left (leb (natAbs (offset l i)) (2 ^ 33)) (nonNeg (countOf l i) && ltb (votes l i) (2 ^ 32)) (every-at (binOk l) n i all h));
+      counted = λ i h. holds (and-left (nonNeg (countOf l i)) (ltb (votes l i) (2 ^ 32)) (one i h all));
+      small = λ i h. ltb-true (votes l i) (2 ^ 32) (and-right (nonNeg (countOf l i)) (ltb (votes l i) (2 ^ 32)) (one i h all));
     }
   where
-    one : (i : ℕ) → i < n → every n (binOk l) ≡ true → (nonNeg (count l i) && ltb (votes l i) (2 ^ 32)) ≡ true
-    one i h all = and-right (leb (natAbs (offset l i)) (2 ^ 33)) (nonNeg (count l i) && ltb (votes l i) (2 ^ 32)) (every-at (binOk l) n i all h)
+    one : (i : ℕ) → i < n → every n (binOk l) ≡ true → (nonNeg (countOf l i) && ltb (votes l i) (2 ^ 32)) ≡ true
+    one i h all = and-right (leb (natAbs (offset l i)) (2 ^ 33)) (nonNeg (countOf l i) && ltb (votes l i) (2 ^ 32)) (every-at (binOk l) n i all h)
 
 pub bins-ok : (l : List ℤ) (n : ℕ) → Bins l n → binsOk l n ≡ true
 unfolding binsOk
 bins-ok l n b =
     rw (le-leb n 1000000 (b .few), le-leb (2 * n) (length l) (b .room))
-    (every-make (binOk l) n (λ i h. rw (le-leb (natAbs (offset l i)) (2 ^ 33) (b .close i h), is-true (nonNeg (count l i)) (b .counted i h), lt-ltb (votes l i) (2 ^ 32) (b .small i h)) refl))
+    (every-make (binOk l) n (λ i h. rw (le-leb (natAbs (offset l i)) (2 ^ 33) (b .close i h), is-true (nonNeg (countOf l i)) (b .counted i h), lt-ltb (votes l i) (2 ^ 32) (b .small i h)) refl))
 
 -- ---- the span
 

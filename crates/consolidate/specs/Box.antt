@@ -14,8 +14,8 @@ use Rattle.consolidate.specs.declared.Mode.{Mode}
 use Rattle.consolidate.specs.declared.Peak.{Peak}
 
 -- the word that holds the count of bin i
-abbrev pub count : List ℤ → ℕ → ℤ
-count l i = getD l (2 * i + 1) (pos 0)
+abbrev pub countOf : List ℤ → ℕ → ℤ
+countOf l i = getD l (2 * i + 1) (pos 0)
 
 -- bin i is one of those from `from` to before `to`
 abbrev pub between : ℕ → ℕ → ℕ → Bool

@@ -11,7 +11,7 @@ use Rattle.maps.specs.Bins.{offset, votes}
 use Rattle.maps.specs.Sums.{sumTo}
 use Rattle.lists.specs.Every.{every}
 use Rattle.consolidate.specs.Modes.{mode}
-use Rattle.consolidate.specs.Box.{count, boxPeak}
+use Rattle.consolidate.specs.Box.{countOf, boxPeak}
 use Rattle.consolidate.specs.declared.CheckedMode.{CheckedMode}
 use Rattle.consolidate.specs.declared.CheckedMode.the-variants as checked-mode
 use Rattle.consolidate.specs.declared.CheckedPeak.{CheckedPeak}
@@ -22,11 +22,11 @@ pub record Bins (l : List ℤ) (n : ℕ) : Type 0 where
   pub few : n ≤ 1000000
   pub room : 2 * n ≤ length l
   pub close : (i : ℕ) → i < n → natAbs (offset l i) ≤ 2 ^ 33
-  pub counted : (i : ℕ) → i < n → T (nonNeg (count l i))
+  pub counted : (i : ℕ) → i < n → T (nonNeg (countOf l i))
   pub small : (i : ℕ) → i < n → votes l i < 2 ^ 32
 
 abbrev pub binOk : List ℤ → ℕ → Bool
-binOk l i = leb (natAbs (offset l i)) (2 ^ 33) && (nonNeg (count l i) && ltb (votes l i) (2 ^ 32))
+binOk l i = leb (natAbs (offset l i)) (2 ^ 33) && (nonNeg (countOf l i) && ltb (votes l i) (2 ^ 32))
 
 unfoldable pub binsOk : List ℤ → ℕ → Bool
 binsOk l n = leb n 1000000 && (leb (2 * n) (length l) && every n (binOk l))

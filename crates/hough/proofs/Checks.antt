@@ -15,7 +15,7 @@ use Rattle.lists.proofs.Tests.{and-left, and-right}
 use Rattle.lists.proofs.Every.{every-at, every-make}
 use Rattle.maps.proofs.Tests.{holds, is-true}
 use Rattle.consolidate.proofs.Checks.{next-of, next-ok}
-use Rattle.hough.specs.Hough.{scaleWord, offset, count, scale, votes}
+use Rattle.hough.specs.Hough.{scaleWord, offset, countOf, scale, votes}
 use Rattle.hough.specs.Limits.{before, Bins, binOk, binsOk}
 
 -- what one bin's test shows
@@ -23,7 +23,7 @@ record One (l : List ℤ) (n i : ℕ) : Type 0 where
   scaled : T (nonNeg (scaleWord l i))
   scales : scale l i ≤ 4095
   close : natAbs (offset l i) ≤ 2 ^ 39
-  counted : T (nonNeg (count l i))
+  counted : T (nonNeg (countOf l i))
   rises : i + 1 < n → T (before l i (i + 1))
 
 one : (l : List ℤ) (n i : ℕ) → binOk l n i ≡ true → One l n i
@@ -31,7 +31,7 @@ one l n i e =
     let a = nonNeg (scaleWord l i) in
     let b = leb (scale l i) 4095 in
     let c = leb (natAbs (offset l i)) (2 ^ 39) in
-    let d = nonNeg (count l i) in
+    let d = nonNeg (countOf l i) in
     let r = leb n (i + 1) || before l i (i + 1) in
     let e₁ = and-left (a && b) (c && (d && r)) e in
     let e₂ = and-right (a && b) (c && (d && r)) e in
@@ -72,7 +72,7 @@ bins-ok l n b =
   where
     at : (i : ℕ) → i < n → binOk l n i ≡ true
     at i h =
-        rw (is-true (nonNeg (scaleWord l i)) (b .scaled i h), le-leb (scale l i) 4095 (b .scales i h), le-leb (natAbs (offset l i)) (2 ^ 39) (b .close i h), is-true (nonNeg (count l i)) (b .counted i h))
+        rw (is-true (nonNeg (scaleWord l i)) (b .scaled i h), le-leb (scale l i) 4095 (b .scales i h), le-leb (natAbs (offset l i)) (2 ^ 39) (b .close i h), is-true (nonNeg (countOf l i)) (b .counted i h))
         (next-ok n i (before l i (i + 1)) (b .ascend i))
 
 -- there are such bins: the example of document 01

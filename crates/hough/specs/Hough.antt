@@ -20,15 +20,15 @@ scaleWord l i = getD l (3 * i) (pos 0)
 abbrev pub offset : List ℤ → ℕ → ℤ
 offset l i = getD l (3 * i + 1) (pos 0)
 
-abbrev pub count : List ℤ → ℕ → ℤ
-count l i = getD l (3 * i + 2) (pos 0)
+abbrev pub countOf : List ℤ → ℕ → ℤ
+countOf l i = getD l (3 * i + 2) (pos 0)
 
 -- the scale bin and the count as natural numbers
 abbrev pub scale : List ℤ → ℕ → ℕ
 scale l i = natAbs (scaleWord l i)
 
 abbrev pub votes : List ℤ → ℕ → ℕ
-votes l i = natAbs (count l i)
+votes l i = natAbs (countOf l i)
 
 -- how far apart two scale bins are, and two offsets
 abbrev pub dist : ℕ → ℕ → ℕ

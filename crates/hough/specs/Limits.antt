@@ -9,7 +9,7 @@ use lib.Dec.{T, leb, ltb, eqb}
 use lib.ListN.{length}
 use Rattle.maps.specs.Sums.{sumTo}
 use Rattle.lists.specs.Every.{every}
-use Rattle.hough.specs.Hough.{scaleWord, offset, count, scale, votes, houghPeak, peakOffset, prominence}
+use Rattle.hough.specs.Hough.{scaleWord, offset, countOf, scale, votes, houghPeak, peakOffset, prominence}
 use Rattle.hough.specs.declared.Peak.{Peak}
 use Rattle.hough.specs.declared.Answer.{Answer}
 use Rattle.hough.specs.declared.CheckedAnswer.{CheckedAnswer}
@@ -26,14 +26,14 @@ pub record Bins (l : List ℤ) (n : ℕ) : Type 0 where
   pub scaled : (i : ℕ) → i < n → T (nonNeg (scaleWord l i))
   pub scales : (i : ℕ) → i < n → scale l i ≤ 4095
   pub close : (i : ℕ) → i < n → natAbs (offset l i) ≤ 2 ^ 39
-  pub counted : (i : ℕ) → i < n → T (nonNeg (count l i))
+  pub counted : (i : ℕ) → i < n → T (nonNeg (countOf l i))
   pub ascend : (i : ℕ) → i + 1 < n → T (before l i (i + 1))
   pub sum : sumTo (votes l) n ≤ 1000000
 
 abbrev pub binOk : List ℤ → ℕ → ℕ → Bool
 binOk l n i =
     (nonNeg (scaleWord l i) && leb (scale l i) 4095)
-    && (leb (natAbs (offset l i)) (2 ^ 39) && (nonNeg (count l i) && (leb n (i + 1) || before l i (i + 1))))
+    && (leb (natAbs (offset l i)) (2 ^ 39) && (nonNeg (countOf l i) && (leb n (i + 1) || before l i (i + 1))))
 
 unfoldable pub binsOk : List ℤ → ℕ → Bool
 binsOk l n = leb n 1000000 && (leb (3 * n) (length l) && (every n (binOk l n) && leb (sumTo (votes l) n) 1000000))

@@ -4,6 +4,6 @@ use mathlib.Core.Bool.{Bool}
 use mathlib.Core.List.{List, [], _∷_}
 use Rattle.maps.specs.Sums.{when}
 
-unfoldable pub count : {A : Type 0} → (A → Bool) → List A → ℕ
-count p [] = 0
-count p (x ∷ xs) = when (p x) 1 + count p xs
+unfoldable pub countIf : {A : Type 0} → (A → Bool) → List A → ℕ
+countIf p [] = 0
+countIf p (x ∷ xs) = when (p x) 1 + countIf p xs

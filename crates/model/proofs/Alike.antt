@@ -18,7 +18,7 @@ use Rattle.model.specs.Fingerprints.{Hash, Fingerprint, hashOf, hashCoun
 use Rattle.model.specs.Index.{Index, empty, inserted, builtFrom}
 use Rattle.model.specs.Query.{Scheme}
 use Rattle.model.specs.Calls.{Sizes, Store, holds, content, insert, refusal, buildTests, insertTests, buildStep, insertStep}
-use Rattle.model.specs.Words.{Words, sizesOf, listed, rowEntries, write}
+use Rattle.model.specs.Words.{Words, sizesOf, slicesListed, rowEntries, write}
 use Rattle.model.specs.Sound.{Sound}
 use Rattle.model.specs.Run.{storeOf, laidOut, runBuild, run}
 use Rattle.model.specs.History.{leaves, answers}
@@ -105,7 +105,7 @@ module _ (S : Scheme) (w2 : 2 ≤ S .width) (limit : ℕ) where
 
   -- an accepted build
   build-leaves : (m : Words) (rs : List Recording) → Accepted (run S m (oneBuild S limit rs) .0)
-      → (listed w m ≡ true) × (run S m (oneBuild S limit rs) .1 ≡ write w (sizesOf w m) (builtFrom w limit (built rs)))
+      → (slicesListed w m ≡ true) × (run S m (oneBuild S limit rs) .1 ≡ write w (sizesOf w m) (builtFrom w limit (built rs)))
   unfolding runBuild buildStep buildTests
   build-leaves m rs a = maybe (refusal tests)
       (λ d. (is-listed w m w2 (none-applies tests d 1), rw d))
@@ -115,7 +115,7 @@ module _ (S : Scheme) (w2 : 2 ≤ S .width) (limit : ℕ) where
       tests = buildTests (sizesOf w m) (storeOf w m) (malformedBuild w (flat (map (λ r. r .words) rs)) (map (λ r. hashCount w (r .words)) rs) (map (λ r. r .rate) rs)) limit (built rs)
 
   -- every word zero: an empty index, laid out
-  blank-is : (m : Words) → listed w m ≡ true → write w (sizesOf w m) empty ≡ blank m
+  blank-is : (m : Words) → slicesListed w m ≡ true → write w (sizesOf w m) empty ≡ blank m
   unfolding write rowEntries flat
   blank-is m l = λ i. record { references = references i; postings = postings i; stopped = stopped i }
     where
@@ -135,7 +135,7 @@ loads-alike S w2 m limit rs a b =
     ∙ ap (λ (z : Sizes). write (S .width) z (builtFrom (S .width) limit (built S w2 limit rs))) (I .2 ∙ ap (sizesOf (S .width)) (sym zero) ∙ written-sizes (S .width) (sizesOf (S .width) m) empty w2 sound)
     ∙ sym (B .1)
   where
-    B : (listed (S .width) m ≡ true) × (run S m (oneBuild S limit rs) .1 ≡ write (S .width) (sizesOf (S .width) m) (builtFrom (S .width) limit (built S w2 limit rs)))
+    B : (slicesListed (S .width) m ≡ true) × (run S m (oneBuild S limit rs) .1 ≡ write (S .width) (sizesOf (S .width) m) (builtFrom (S .width) limit (built S w2 limit rs)))
     B = build-leaves S w2 limit m rs b
 
     sound : Sound (S .width) (sizesOf (S .width) m) empty

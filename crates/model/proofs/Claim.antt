@@ -7,7 +7,7 @@ use Rattle.model.specs.Calls.{Sizes, Answer, Call, query, step}
 use Rattle.model.specs.Words.{Words, sizesOf}
 use Rattle.model.specs.Run.{storeOf, run}
 use Rattle.model.specs.History.{leaves, answers, replay, history, answerFrom}
-use Rattle.model.specs.Claim.{Accepted, At, Demand3, FromHistory, atFirst, Claim}
+use Rattle.model.specs.Claim.{Accepted, ClaimedAt, Demand3, FromHistory, atFirst, Claim}
 use Rattle.model.proofs.Stores.{store-sound}
 use Rattle.model.proofs.Demand3.{demand3, from-history}
 use Rattle.model.proofs.Run.{run-answers, run-sizes, run-leaves}
@@ -44,7 +44,7 @@ module _ (S : Scheme) {T U : Type 0} (run : T → Call S → Answer × T) (model
 
     pub demand3-of : (c : Catalog) (t : T) → Good t → (calls : List (Call S)) → Demand3 S model c (read t) calls → Demand3 S run c t calls
     demand3-of c t g calls D before x rest e = transport
-        (λ i. At S (λ q. sym (answer-same t g before (query q)) i) (λ q. sym (answer-same t g (before ++ x ∷ []) (query q)) i)
+        (λ i. ClaimedAt S (λ q. sym (answer-same t g before (query q)) i) (λ q. sym (answer-same t g (before ++ x ∷ []) (query q)) i)
         (sym (history-same c t g before) i) (sym (history-same c t g (before ++ x ∷ [])) i) (sym (answer-same t g before x) i) x)
         (D before x rest e)
 

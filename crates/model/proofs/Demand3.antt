@@ -14,7 +14,7 @@ use Rattle.model.specs.Query.{Scheme, Query, Catalog, catalog, tooManyVo
 use Rattle.model.specs.Calls.{Sizes, Store, holds, content, isUnlisted, Answer, stored, removed, count, Call, build, insert, remove, liveCount, query, refusal, buildTests, insertTests, plainTests, scratchListed, queryTests, outcome, buildStep, insertStep, removeStep, countStep, queryStep, answerOf, step}
 use Rattle.model.specs.Sound.{SoundStore}
 use Rattle.model.specs.History.{withRecording, withoutRecording, storedId, withRecordingIf, after, leaves, answers, replay, history, answerFrom}
-use Rattle.model.specs.Claim.{Accepted, KeysKept, OldOrNew, AfterInsert, AfterRemove, At, Demand3, FromHistory}
+use Rattle.model.specs.Claim.{Accepted, KeysKept, OldOrNew, AfterInsert, AfterRemove, ClaimedAt, Demand3, FromHistory}
 use Rattle.model.proofs.Agree.{best-same, many-same}
 use Rattle.model.proofs.Fingerprints.{WideHashes, wide-hashes}
 use Rattle.model.proofs.Preserved.{sound-store, none-applies, not-refused, newId-le, newId-dead, Inv, inv-inserted, inv-erased, start-inv, calls-inv}
@@ -122,7 +122,7 @@ module _ (S : Scheme) (z : Sizes) (w2 : 2 ≤ S .width) where
   -- ---- wherever in the list
 
   at : (s : Store) (c : Catalog) → Inv w z s c → (x : Call S)
-      → At S (λ q. queryStep S s q .0) (λ q. queryStep S (step S z s x .1) q .0) c (after S c x (step S z s x .0)) (step S z s x .0) x
+      → ClaimedAt S (λ q. queryStep S s q .0) (λ q. queryStep S (step S z s x .1) q .0) c (after S c x (step S z s x .0)) (step S z s x .0) x
   unfolding insertStep removeStep after
   at s c I (insert limit rate words) =
       at-insert s c I (malformed w referenceMost words) limit (fingerprintOf w rate words) (wide-hashes w w2 words)

@@ -11,7 +11,7 @@ use Rattle.lists.specs.Every.{every, count, allTrue}
 use Rattle.lists.specs.Entries.{keyAt, keysAscend, zeroFrom}
 use Rattle.lists.proofs.Tests.{test, and-left, and-right, no-and, both-true, or-else, or-left, or-right, all-true-at, all-more, all-none}
 use Rattle.lists.proofs.Every.{every-at, every-make}
-use Rattle.model.specs.Rows.{isWang, noRate, isCanonical}
+use Rattle.model.specs.Rows.{hasRmax, noRate, isCanonical}
 use Rattle.model.specs.Calls.{Sizes}
 use Rattle.model.specs.Soundness.{rowWord, postingWord, countsFit, liveWord, stoppedStep, deadRow, otherEntry, vacantEntry, deadFine, rateFine, liveId, postingLive, anchorFine, rmaxFine, otherKey, keyUnstopped, entryUnused, soundTests}
 
@@ -70,8 +70,8 @@ module _ (w : ℕ) (z : Sizes) (rs ps ss : List ℕ) (n v p k : ℕ) where
     pub rate : (j : ℕ) → j < n → (rowWord rs j 2 ≡ 0 → ⊥) → isCanonical (rowWord rs j 0) ≡ true
     pub id-within : (i : ℕ) → i < p → postingWord ps w i 1 < n
     pub id-live : (i : ℕ) → i < p → rowWord rs (postingWord ps w i 1) 2 ≡ 1
-    pub anchors : (i : ℕ) → i < p → isWang w ≡ true → postingWord ps w i 2 ≤ rowWord rs (postingWord ps w i 1) 1
-    pub rmax : (j : ℕ) → j < n → isWang w ≡ false → rowWord rs j 1 ≡ 0
+    pub anchors : (i : ℕ) → i < p → hasRmax w ≡ true → postingWord ps w i 2 ≤ rowWord rs (postingWord ps w i 1) 1
+    pub rmax : (j : ℕ) → j < n → hasRmax w ≡ false → rowWord rs j 1 ≡ 0
     pub unstopped : (i j : ℕ) → i < p → j < k → getD ss j 0 ≡ keyAt ps w i → ⊥
     pub rows-unused : zeroFrom rs (4 + 4 * n) ≡ true
     pub entries-unused : (i : ℕ) → v ≤ i → i < n → rowWord rs i 3 ≡ 0
@@ -99,8 +99,8 @@ module _ (w : ℕ) (z : Sizes) (rs ps ss : List ℕ) (n v p k : ℕ) where
     id-within = λ i h. live-id rs n (postingWord ps w i 1) (every-at (postingLive w rs n ps) p i (t 8) h) .0;
     id-live = λ i h. live-id rs n (postingWord ps w i 1) (every-at (postingLive w rs n ps) p i (t 8) h) .1;
     anchors = λ i h e. leb-true (postingWord ps w i 2) (rowWord rs (postingWord ps w i 1) 1)
-        (or-else (not (isWang w)) (leb (postingWord ps w i 2) (rowWord rs (postingWord ps w i 1) 1)) (every-at (anchorFine w rs ps) p i (t 9) h) (ap not e));
-    rmax = λ j h e. eqb-true (rowWord rs j 1) 0 (or-else (isWang w) (eqb (rowWord rs j 1) 0) (every-at (rmaxFine w rs) n j (t 10) h) e);
+        (or-else (not (hasRmax w)) (leb (postingWord ps w i 2) (rowWord rs (postingWord ps w i 1) 1)) (every-at (anchorFine w rs ps) p i (t 9) h) (ap not e));
+    rmax = λ j h e. eqb-true (rowWord rs j 1) 0 (or-else (hasRmax w) (eqb (rowWord rs j 1) 0) (every-at (rmaxFine w rs) n j (t 10) h) e);
     unstopped = λ i j h l e. eqb-false (getD ss j 0) (keyAt ps w i) (not-true (eqb (getD ss j 0) (keyAt ps w i))
         (every-at (otherKey ss (keyAt ps w i)) k j (every-at (keyUnstopped w ss k ps) p i (t 11) h) l)) e;
     rows-unused = t 12;
@@ -141,7 +141,7 @@ module _ (w : ℕ) (z : Sizes) (rs ps ss : List ℕ) (n v p k : ℕ) where
       (all-more _ _ (every-make (rateFine rs) n (λ j h. test (deadRow rs j) (λ e. or-left (deadRow rs j) _ e) (λ e. or-right (deadRow rs j) _ (F .rate j h (dead-false rs j e)))))
       (all-more _ _ (every-make (postingLive w rs n ps) p (λ i h. id-live rs n (postingWord ps w i 1) (F .id-within i h) (F .id-live i h)))
       (all-more _ _ (every-make (anchorFine w rs ps) p anchor)
-      (all-more _ _ (every-make (rmaxFine w rs) n (λ j h. test (isWang w) (λ e. or-left (isWang w) _ e) (λ e. or-right (isWang w) _ (eq-eqb (rowWord rs j 1) 0 (F .rmax j h e)))))
+      (all-more _ _ (every-make (rmaxFine w rs) n (λ j h. test (hasRmax w) (λ e. or-left (hasRmax w) _ e) (λ e. or-right (hasRmax w) _ (eq-eqb (rowWord rs j 1) 0 (F .rmax j h e)))))
       (all-more _ _ (every-make (keyUnstopped w ss k ps) p (λ i h. every-make (otherKey ss (keyAt ps w i)) k (λ j l. ap not (ne-eqb (getD ss j 0) (keyAt ps w i) (F .unstopped i j h l)))))
       (all-more _ _ (F .rows-unused)
       (all-more _ _ (every-make (entryUnused rs v) (n - v) (λ i h. eq-eqb (rowWord rs (v + i) 3) 0 (F .entries-unused (v + i) (omega arith) (omega arith))))
@@ -161,6 +161,6 @@ module _ (w : ℕ) (z : Sizes) (rs ps ss : List ℕ) (n v p k : ℕ) where
           (λ e. or-left (not (deadRow rs j)) _ (ap not e))
 
       anchor : (i : ℕ) → i < p → anchorFine w rs ps i ≡ true
-      anchor i h = test (isWang w)
-          (λ e. or-right (not (isWang w)) _ (le-leb (postingWord ps w i 2) (rowWord rs (postingWord ps w i 1) 1) (F .anchors i h e)))
-          (λ e. or-left (not (isWang w)) _ (ap not e))
+      anchor i h = test (hasRmax w)
+          (λ e. or-right (not (hasRmax w)) _ (le-leb (postingWord ps w i 2) (rowWord rs (postingWord ps w i 1) 1) (F .anchors i h e)))
+          (λ e. or-left (not (hasRmax w)) _ (ap not e))

@@ -17,7 +17,7 @@ use Rattle.lists.proofs.Tests.{test}
 use Rattle.lists.proofs.Keep.{all-imp, all-map, all-append, all-take, all-drop, all-of, map-map, map-id, keep-all, keep-none, keep-nil, keep-append}
 use Rattle.lists.proofs.Entries.{wide-entries, length-read}
 use Rattle.model.specs.Fingerprints.{Hash, Fingerprint, hashOf, hashCount, hashesOf, divided, fingerprintsOf}
-use Rattle.model.specs.Rows.{isWang, anchor, largestAnchor, noRate, canonical, isCanonical, rowOf, rowSound, hashSound}
+use Rattle.model.specs.Rows.{hasRmax, anchor, largestAnchor, noRate, canonical, isCanonical, rowOf, rowSound, hashSound}
 use Rattle.model.specs.Index.{Posting, posted, numbered, ofId}
 
 -- ---- rows
@@ -37,14 +37,14 @@ anchor-largest (h ∷ hs) = (omega arith, all-imp (λ g. anchor g ≤ largestAnc
 
 pub row-sound : (w : ℕ) (f : Fingerprint) → rowSound w (rowOf w f) ≡ true
 unfolding rowSound rowOf
-row-sound w f = rw (canonical-is (f .rate)) (test (isWang w) (λ e. rw e) (λ e. rw e))
+row-sound w f = rw (canonical-is (f .rate)) (test (hasRmax w) (λ e. rw e) (λ e. rw e))
 
 pub hashes-sound : (w : ℕ) (f : Fingerprint) → All (λ h. hashSound w (rowOf w f) h ≡ true) (f .hashes)
 unfolding hashSound rowOf
-hashes-sound w f = test (isWang w)
-    (λ e. all-imp (λ h. anchor h ≤ largestAnchor (f .hashes)) (λ h. (not (isWang w) || leb (anchor h) (cond (isWang w) (largestAnchor (f .hashes)) 0)) ≡ true)
+hashes-sound w f = test (hasRmax w)
+    (λ e. all-imp (λ h. anchor h ≤ largestAnchor (f .hashes)) (λ h. (not (hasRmax w) || leb (anchor h) (cond (hasRmax w) (largestAnchor (f .hashes)) 0)) ≡ true)
     (λ h le. rw e (le-leb (anchor h) (largestAnchor (f .hashes)) le)) (f .hashes) (anchor-largest (f .hashes)))
-    (λ e. all-of (λ h. (not (isWang w) || leb (anchor h) (cond (isWang w) (largestAnchor (f .hashes)) 0)) ≡ true) (λ h. rw e) (f .hashes))
+    (λ e. all-of (λ h. (not (hasRmax w) || leb (anchor h) (cond (hasRmax w) (largestAnchor (f .hashes)) 0)) ≡ true) (λ h. rw e) (f .hashes))
 
 -- ---- widths
 

@@ -21,7 +21,7 @@ use Rattle.lists.proofs.Keep.{some-none, all-make, all-map, all-imp, map-map, m
 use Rattle.lists.proofs.Place.{sorted-map}
 use Rattle.lists.proofs.Ascending.{ascending-make}
 use Rattle.lists.proofs.Entries.{all-entries, entries-at, entry-key, length-entries, entries-fewer, wide-entries, sorted-entries, flat-entries, length-read, read-at, padded-take}
-use Rattle.model.specs.Rows.{Row, isWang, noRate, isCanonical, rowSound, hashSound}
+use Rattle.model.specs.Rows.{Row, hasRmax, noRate, isCanonical, rowSound, hashSound}
 use Rattle.model.specs.Index.{Posting, keyOf, isLive}
 use Rattle.model.specs.Calls.{Sizes}
 use Rattle.model.specs.Words.{Words, rowWords, rowEntries, postingWords, write, readRow, readVacant, readPosting, readIndex}
@@ -148,7 +148,7 @@ module _ (w : ℕ) (z : Sizes) (m : Words) (w2 : 2 ≤ w) (refs-long : length (m
     row-good j h = either-row j h
         (λ e. rw (dead-row j h e))
         (λ e. rw (live-row j h e) (both-true (isCanonical (rowWord rs j 0)) _ (F .rate j h (λ d. omega arith))
-        (test (isWang w) (λ d. or-left (isWang w) _ d) (λ d. or-right (isWang w) _ (eq-eqb (rowWord rs j 1) 0 (F .rmax j h d))))))
+        (test (hasRmax w) (λ d. or-left (hasRmax w) _ d) (λ d. or-right (hasRmax w) _ (eq-eqb (rowWord rs j 1) 0 (F .rmax j h d))))))
 
     dead-same : (j : ℕ) → j < n → isDead (getD rows j none) ≡ deadRow rs j
     dead-same j h = either-row j h
@@ -171,15 +171,15 @@ module _ (w : ℕ) (z : Sizes) (m : Words) (w2 : 2 ≤ w) (refs-long : length (m
 
     -- ---- postings
 
-    anchor-read : (i : ℕ) → isWang w ≡ true → getD (drop 2 (entryAt w i ps)) 0 0 ≡ postingWord ps w i 2
+    anchor-read : (i : ℕ) → hasRmax w ≡ true → getD (drop 2 (entryAt w i ps)) 0 0 ≡ postingWord ps w i 2
     anchor-read i e = getD-drop 2 (entryAt w i ps) 0 0 ∙ rw add-zero (anchor-word w ps i e)
 
     pub posting-good : (i : ℕ) → i < p → goodHash w (getD rows (readPosting (entryAt w i ps) .id) none) (readPosting (entryAt w i ps) .hash) ≡ true
     unfolding hashSound
     posting-good i h =
-        rw (id-word w ps i w2, live-row (postingWord ps w i 1) (F .id-within i h) (F .id-live i h)) (test (isWang w)
-        (λ e. or-right (not (isWang w)) _ (rw (anchor-read i e) (le-leb (postingWord ps w i 2) (rowWord rs (postingWord ps w i 1) 1) (F .anchors i h e))))
-        (λ e. or-left (not (isWang w)) _ (ap not e)))
+        rw (id-word w ps i w2, live-row (postingWord ps w i 1) (F .id-within i h) (F .id-live i h)) (test (hasRmax w)
+        (λ e. or-right (not (hasRmax w)) _ (rw (anchor-read i e) (le-leb (postingWord ps w i 2) (rowWord rs (postingWord ps w i 1) 1) (F .anchors i h e))))
+        (λ e. or-left (not (hasRmax w)) _ (ap not e)))
 
     pub stopped-read : (j : ℕ) → j < k → getD stopped j 0 ≡ getD ss j 0
     stopped-read j h = getD-take k ss j 0 h

@@ -12,7 +12,7 @@ use Rattle.model.specs.Fingerprints.{fingerprintOf, fingerprintsOf, malf
 use Rattle.model.specs.Index.{Index, newId, isLive, inserted, builtFrom, erased}
 use Rattle.model.specs.Query.{Scheme, Query, catalog}
 use Rattle.model.specs.Calls.{Sizes, Store, holds, content, isUnlisted, Answer, built, stored, removed, refused, Call, build, insert, remove, liveCount, query, refusal, buildTests, insertTests, plainTests, queryTests, Outcome, outcome, buildStep, insertStep, removeStep, countStep, queryStep, step}
-use Rattle.model.specs.Words.{Words, sizesOf, listed}
+use Rattle.model.specs.Words.{Words, sizesOf, slicesListed}
 use Rattle.model.specs.Sound.{Sound, SoundStore}
 use Rattle.model.specs.Run.{storeOf, laidOut, onWords, runBuild, runInsert, runRemove, runCount, runQuery, run}
 use Rattle.model.proofs.Stores.{written-sizes, store-sound, store-again, store-written, store-unlisted}
@@ -107,8 +107,8 @@ step-refused S z s (query q) n e = query-same S s q
 -- ---- on words
 
 module _ (w : ℕ) (m : Words) (w2 : 2 ≤ w) where
-  pub is-listed : isUnlisted (storeOf w m) ≡ false → listed w m ≡ true
-  is-listed u = test (listed w m) (λ d. d) (λ d. absurd (not-both (rw (store-unlisted w m d)) u))
+  pub is-listed : isUnlisted (storeOf w m) ≡ false → slicesListed w m ≡ true
+  is-listed u = test (slicesListed w m) (λ d. d) (λ d. absurd (not-both (rw (store-unlisted w m d)) u))
 
   -- what leaves the store as it was leaves the words as they were
   pub words-same : (o : Outcome) → o .1 ≡ storeOf w m → onWords w m o .1 ≡ m

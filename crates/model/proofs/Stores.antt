@@ -11,7 +11,7 @@ use borrow.Author.Tests.{eqb-true, eq-eqb}
 use Rattle.lists.proofs.Tests.{test, and-left, and-right, both-true}
 use Rattle.model.specs.Index.{Index}
 use Rattle.model.specs.Calls.{Sizes, unlisted, unsound, holds}
-use Rattle.model.specs.Words.{Words, sizesOf, sizesListed, listed, write, readIndex}
+use Rattle.model.specs.Words.{Words, sizesOf, sizesListed, slicesListed, write, readIndex}
 use Rattle.model.specs.Sound.{Sound, SoundStore}
 use Rattle.model.specs.Soundness.{soundWords}
 use Rattle.model.specs.Run.{storeOf, laidOut}
@@ -22,16 +22,16 @@ use Rattle.model.proofs.Read.{read-sound, write-read}
 
 -- ---- from words to an index
 
-module _ (w : ℕ) (m : Words) (w2 : 2 ≤ w) (l : listed w m ≡ true) where
+module _ (w : ℕ) (m : Words) (w2 : 2 ≤ w) (l : slicesListed w m ≡ true) where
   abbrev z : Sizes
   z = sizesOf w m
 
   exact : eqb (length (m .references)) (4 + 4 * z .R) && eqb (length (m .postings)) (w * z .P) ≡ true
-  unfolding listed
+  unfolding slicesListed
   exact = and-right (sizesListed z) _ l
 
   pub sizes-listed : sizesListed (sizesOf w m) ≡ true
-  unfolding listed
+  unfolding slicesListed
   sizes-listed = and-left (sizesListed z) _ l
 
   pub references-long : length (m .references) ≡ 4 + 4 * sizesOf w m .R
@@ -63,8 +63,8 @@ module _ (w : ℕ) (z : Sizes) (x : Index) (w2 : 2 ≤ w) (h : Sound w z x) wher
   pub written-sizes : sizesOf w (write w z x) ≡ z
   written-sizes = sizes-written w z x (fewer w z x w2 h) (h .wide) (h .rows-fit) (h .postings-fit) (h .stopped-fit) (omega arith)
 
-  pub written-listed : sizesListed z ≡ true → listed w (write w z x) ≡ true
-  unfolding listed
+  pub written-listed : sizesListed z ≡ true → slicesListed w (write w z x) ≡ true
+  unfolding slicesListed
   written-listed l = rw written-sizes (both-true (sizesListed z) _ l (both-true (eqb (length (write w z x .references)) (4 + 4 * z .R)) _
       (eq-eqb (length (write w z x .references)) (4 + 4 * z .R) (length-references w z x (fewer w z x w2 h) (h .wide) (h .rows-fit) (h .postings-fit) (h .stopped-fit)))
       (eq-eqb (length (write w z x .postings)) (w * z .P) (length-postings w z x (fewer w z x w2 h) (h .wide) (h .rows-fit) (h .postings-fit) (h .stopped-fit)))))
@@ -75,7 +75,7 @@ module _ (w : ℕ) (z : Sizes) (x : Index) (w2 : 2 ≤ w) (h : Sound w z x) wher
 -- ---- both ways
 
 -- the test accepts exactly the words of sound indexes
-pub sound-exactly : (w : ℕ) (m : Words) → 2 ≤ w → listed w m ≡ true
+pub sound-exactly : (w : ℕ) (m : Words) → 2 ≤ w → slicesListed w m ≡ true
     → (soundWords w m ≡ true) ↔ ((x : Index) × Sound w (sizesOf w m) x × (write w (sizesOf w m) x ≡ m))
 sound-exactly w m w2 l = (
   (λ s. (readIndex w m, sound-read w m w2 l s, sound-again w m w2 l s)),
@@ -88,21 +88,21 @@ sound-once w m x w2 h e = ap (readIndex w) (sym e) ∙ written-read w (sizesOf w
 
 -- ---- what the words say
 
-pub store-holds : (w : ℕ) (m : Words) → listed w m ≡ true → soundWords w m ≡ true → storeOf w m ≡ holds (readIndex w m)
+pub store-holds : (w : ℕ) (m : Words) → slicesListed w m ≡ true → soundWords w m ≡ true → storeOf w m ≡ holds (readIndex w m)
 unfolding storeOf
 store-holds w m l s = rw (l, s)
 
-pub store-unsound : (w : ℕ) (m : Words) → listed w m ≡ true → soundWords w m ≡ false → storeOf w m ≡ unsound
+pub store-unsound : (w : ℕ) (m : Words) → slicesListed w m ≡ true → soundWords w m ≡ false → storeOf w m ≡ unsound
 unfolding storeOf
 store-unsound w m l s = rw (l, s)
 
-pub store-unlisted : (w : ℕ) (m : Words) → listed w m ≡ false → storeOf w m ≡ unlisted
+pub store-unlisted : (w : ℕ) (m : Words) → slicesListed w m ≡ false → storeOf w m ≡ unlisted
 unfolding storeOf
 store-unlisted w m l = rw l
 
 module _ (w : ℕ) (m : Words) (w2 : 2 ≤ w) where
   pub store-sound : SoundStore w (sizesOf w m) (storeOf w m)
-  store-sound = test (listed w m)
+  store-sound = test (slicesListed w m)
       (λ l. test (soundWords w m)
       (λ s. rw (store-holds w m l s) (sound-read w m w2 l s))
       (λ s. rw (store-unsound w m l s) tt))
@@ -110,14 +110,14 @@ module _ (w : ℕ) (m : Words) (w2 : 2 ≤ w) where
 
   -- what the words say, laid out, are the words
   pub store-again : laidOut w m (storeOf w m) ≡ m
-  store-again = test (listed w m)
+  store-again = test (slicesListed w m)
       (λ l. test (soundWords w m)
       (λ s. rw (store-holds w m l s) (sound-again w m w2 l s))
       (λ s. rw (store-unsound w m l s)))
       (λ l. rw (store-unlisted w m l))
 
   -- another sound index of the same sizes, laid out, says that index
-  pub store-written : listed w m ≡ true → (x : Index) → Sound w (sizesOf w m) x → storeOf w (write w (sizesOf w m) x) ≡ holds x
+  pub store-written : slicesListed w m ≡ true → (x : Index) → Sound w (sizesOf w m) x → storeOf w (write w (sizesOf w m) x) ≡ holds x
   store-written l x h =
       store-holds w (write w (sizesOf w m) x) (written-listed w (sizesOf w m) x w2 h (sizes-listed w m w2 l)) (written-sound w (sizesOf w m) x w2 h)
       ∙ ap holds (written-read w (sizesOf w m) x w2 h)

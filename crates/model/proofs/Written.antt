@@ -20,7 +20,7 @@ use Rattle.lists.proofs.Keep.{length-keep, none-pass, all-at, all-imp, all-map,
 use Rattle.lists.proofs.Place.{sorted-map}
 use Rattle.lists.proofs.Ascending.{ascending-at}
 use Rattle.lists.proofs.Entries.{entries-at, entry-word, entry-key, entries-sorted}
-use Rattle.model.specs.Rows.{Row, isWang, noRate, isCanonical, rowSound, hashSound, anchor}
+use Rattle.model.specs.Rows.{Row, hasRmax, noRate, isCanonical, rowSound, hashSound, anchor}
 use Rattle.model.specs.Index.{Posting, Index, isStopped}
 use Rattle.model.specs.Calls.{Sizes}
 use Rattle.model.specs.Words.{rowWords, postingWords, write}
@@ -39,7 +39,7 @@ row-word rs j f h =
 pub id-word : (w : ℕ) (ps : List ℕ) (i : ℕ) → 2 ≤ w → getD (entryAt w i ps) 1 0 ≡ postingWord ps w i 1
 id-word w ps i h = entry-word w i ps 1 (omega arith)
 
-pub anchor-word : (w : ℕ) (ps : List ℕ) (i : ℕ) → isWang w ≡ true → getD (entryAt w i ps) 2 0 ≡ postingWord ps w i 2
+pub anchor-word : (w : ℕ) (ps : List ℕ) (i : ℕ) → hasRmax w ≡ true → getD (entryAt w i ps) 2 0 ≡ postingWord ps w i 2
 anchor-word w ps i e = entry-word w i ps 2 (omega (arith, eqb-true w 3 e))
 
 -- ---- a row's words, by what it says
@@ -69,10 +69,10 @@ unfolding rowSound
 rate-word w none e g h = absurd (h refl)
 rate-word w (some r) e g h = and-left (isCanonical (r .rate)) _ g
 
-rmax-word : (w : ℕ) (o : Option Row) (e : ℕ) → goodRow w o ≡ true → isWang w ≡ false → getD (rowWords o e) 1 0 ≡ 0
+rmax-word : (w : ℕ) (o : Option Row) (e : ℕ) → goodRow w o ≡ true → hasRmax w ≡ false → getD (rowWords o e) 1 0 ≡ 0
 unfolding rowSound
 rmax-word w none e g h = refl
-rmax-word w (some r) e g h = eqb-true (r .rmax) 0 (or-else (isWang w) (eqb (r .rmax) 0) (and-right (isCanonical (r .rate)) _ g) h)
+rmax-word w (some r) e g h = eqb-true (r .rmax) 0 (or-else (hasRmax w) (eqb (r .rmax) 0) (and-right (isCanonical (r .rate)) _ g) h)
 
 dead-test : (o : Option Row) (e : ℕ) → eqb (getD (rowWords o e) 2 0) 0 ≡ isDead o
 dead-test none e = refl
@@ -123,7 +123,7 @@ module _ (w : ℕ) (z : Sizes) (x : Index) (w2 : 2 ≤ w) (h : Sound w z x) wher
 
   -- what is asked of a posting's words
   abbrev Held : List ℕ → Type 0
-  Held e = (getD e 1 0 < n) × (rowWord rs (getD e 1 0) 2 ≡ 1) × (isWang w ≡ true → getD e 2 0 ≤ rowWord rs (getD e 1 0) 1)
+  Held e = (getD e 1 0 < n) × (rowWord rs (getD e 1 0) 2 ≡ 1) × (hasRmax w ≡ true → getD e 2 0 ≤ rowWord rs (getD e 1 0) 1)
 
   held : (p : Posting) → goodHash w (getD (x .rows) (p .id) none) (p .hash) ≡ true → Held (postingWords p)
   unfolding hashSound
@@ -141,9 +141,9 @@ module _ (w : ℕ) (z : Sizes) (x : Index) (w2 : 2 ≤ w) (h : Sound w z x) wher
       live none e g = absurd (not-both g refl)
       live (some r) e g = refl
 
-      below : (o : Option Row) (e : ℕ) → goodHash w o (p .hash) ≡ true → isWang w ≡ true → anchor (p .hash) ≤ getD (rowWords o e) 1 0
+      below : (o : Option Row) (e : ℕ) → goodHash w o (p .hash) ≡ true → hasRmax w ≡ true → anchor (p .hash) ≤ getD (rowWords o e) 1 0
       below none e g t = absurd (not-both g refl)
-      below (some r) e g t = leb-true (anchor (p .hash)) (r .rmax) (or-else (not (isWang w)) (leb (anchor (p .hash)) (r .rmax)) g (ap not t))
+      below (some r) e g t = leb-true (anchor (p .hash)) (r .rmax) (or-else (not (hasRmax w)) (leb (anchor (p .hash)) (r .rmax)) g (ap not t))
 
   entry-is : (i : ℕ) → i < length (x .postings) → getD (map postingWords (x .postings)) i [] ≡ entryAt w i ps
   entry-is i lt = ap (λ (l : List (List ℕ)). getD l i []) (sym (written-postings w z x fewer (h .wide))) ∙ entries-at w (length (x .postings)) ps i lt

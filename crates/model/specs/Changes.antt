@@ -14,14 +14,14 @@ use Rattle.model.specs.Run.{run}
 use Rattle.model.specs.History.{leaves}
 
 -- the best recording and its votes
-abbrev pub told : Answer → Option (ℕ × ℕ)
-told built = none
-told (stored id) = none
-told (removed b) = none
-told (count n) = none
-told (best id r) = some (id, r .votes)
-told nothing = none
-told (refused n) = none
+abbrev pub bestAndVotes : Answer → Option (ℕ × ℕ)
+bestAndVotes built = none
+bestAndVotes (stored id) = none
+bestAndVotes (removed b) = none
+bestAndVotes (count n) = none
+bestAndVotes (best id r) = some (id, r .votes)
+bestAndVotes nothing = none
+bestAndVotes (refused n) = none
 
 abbrev pub same : Option (ℕ × ℕ) → Option (ℕ × ℕ) → Bool
 same none none = true
@@ -40,7 +40,7 @@ module _ (S : Scheme) where
     pub both : List ℕ
     pub one : List ℕ
     pub other : List ℕ
-    pub asked : Query S
+    pub probe : Query S
 
   pub data Example : Type 0 where
     -- after these calls; the next call; what the query answers before it, and after it
@@ -51,7 +51,7 @@ module _ (S : Scheme) where
   blank = record { references = replicate 16 0; postings = replicate (6 * S .width) 0; stopped = replicate 2 0 }
 
   abbrev pub answer : Query S → List (Call S) → Option (ℕ × ℕ)
-  answer q calls = told (run S (leaves S (run S) blank calls) (query q) .0)
+  answer q calls = bestAndVotes (run S (leaves S (run S) blank calls) (query q) .0)
 
   abbrev pub right : Query S → Example → Bool
   right q (change before x was is) = same (answer q before) was && same (answer q (before ++ x ∷ [])) is
@@ -89,4 +89,4 @@ module _ (S : Scheme) where
       ∷ []
 
   abbrev pub allRight : Material → Bool
-  allRight t = all (t .asked) (table t)
+  allRight t = all (t .probe) (table t)

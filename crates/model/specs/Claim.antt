@@ -72,18 +72,18 @@ module _ (S : Scheme) where
   AfterRemove old new id = (q : Query S) → Accepted (old q) → ((r : MatchResult) → old q ≡ best id r → ⊥) → Accepted (new q) × (new q ≡ old q)
 
   -- at a call that was answered a
-  abbrev pub At : Replies → Replies → Catalog → Catalog → Answer → Call S → Type 0
-  At old new c d a (insert limit rate words) = (id : ℕ) → a ≡ stored id → AfterInsert old new c d id
-  At old new c d a (remove id) = a ≡ removed true → AfterRemove old new id
-  At old new c d a (build limit words lengths rates) = Unit {0}
-  At old new c d a liveCount = Unit {0}
-  At old new c d a (query q) = Unit {0}
+  abbrev pub ClaimedAt : Replies → Replies → Catalog → Catalog → Answer → Call S → Type 0
+  ClaimedAt old new c d a (insert limit rate words) = (id : ℕ) → a ≡ stored id → AfterInsert old new c d id
+  ClaimedAt old new c d a (remove id) = a ≡ removed true → AfterRemove old new id
+  ClaimedAt old new c d a (build limit words lengths rates) = Unit {0}
+  ClaimedAt old new c d a liveCount = Unit {0}
+  ClaimedAt old new c d a (query q) = Unit {0}
 
   -- wherever in a list of calls, t being what they work on and c the catalog at first
   abbrev pub Demand3 : {T : Type 0} → (T → Call S → Answer × T) → Catalog → T → List (Call S) → Type 0
   Demand3 {T} run c t calls =
       (before : List (Call S)) (x : Call S) (rest : List (Call S)) → calls ≡ before ++ x ∷ rest →
-      At (λ q. run (leaves S run t before) (query q) .0) (λ q. run (leaves S run t (before ++ x ∷ [])) (query q) .0)
+      ClaimedAt (λ q. run (leaves S run t before) (query q) .0) (λ q. run (leaves S run t (before ++ x ∷ [])) (query q) .0)
       (history S run c t before) (history S run c t (before ++ x ∷ []))
       (run (leaves S run t before) x .0) x
 

@@ -13,8 +13,8 @@ pub record Row : Type 0 where
   pub rate : ℕ
   pub rmax : ℕ
 
-abbrev pub isWang : ℕ → Bool
-isWang w = eqb w 3
+abbrev pub hasRmax : ℕ → Bool
+hasRmax w = eqb w 3
 
 abbrev pub anchor : Hash → ℕ
 anchor h = getD (h .times) 0 0
@@ -37,12 +37,12 @@ isCanonical rate = not (nanBits binary32 rate) || eqb rate noRate
 
 -- the row of a fingerprint. "A Wang row's r_max is the largest t_anchor of all hashes, skipped ones included"; "Panako r_max is 0"
 unfoldable pub rowOf : ℕ → Fingerprint → Row
-rowOf w f = record { rate = canonical (f .rate); rmax = cond (isWang w) (largestAnchor (f .hashes)) 0 }
+rowOf w f = record { rate = canonical (f .rate); rmax = cond (hasRmax w) (largestAnchor (f .hashes)) 0 }
 
 -- what a sound store asks of a live row: "a live NaN rate is stored as that word", "Panako r_max is 0"
 unfoldable pub rowSound : ℕ → Row → Bool
-rowSound w r = isCanonical (r .rate) && (isWang w || eqb (r .rmax) 0)
+rowSound w r = isCanonical (r .rate) && (hasRmax w || eqb (r .rmax) 0)
 
 -- and of a hash that the recording holds: "a Wang posting's anchor is at most its row's r_max"
 unfoldable pub hashSound : ℕ → Row → Hash → Bool
-hashSound w r h = not (isWang w) || leb (anchor h) (r .rmax)
+hashSound w r h = not (hasRmax w) || leb (anchor h) (r .rmax)

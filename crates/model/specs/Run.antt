@@ -4,12 +4,12 @@ use mathlib.Core.List.{List}
 use Prim.Native.Nat.{ℕ}
 use Rattle.model.specs.Query.{Scheme, Query}
 use Rattle.model.specs.Calls.{Store, unlisted, unsound, holds, Answer, Call, build, insert, remove, liveCount, query, Outcome, buildStep, insertStep, removeStep, countStep, queryStep}
-use Rattle.model.specs.Words.{Words, sizesOf, listed, write, readIndex}
+use Rattle.model.specs.Words.{Words, sizesOf, slicesListed, write, readIndex}
 use Rattle.model.specs.Soundness.{soundWords}
 
 -- what the words say
 unfoldable pub storeOf : ℕ → Words → Store
-storeOf w m = cond (listed w m) (cond (soundWords w m) (holds (readIndex w m)) unsound) unlisted
+storeOf w m = cond (slicesListed w m) (cond (soundWords w m) (holds (readIndex w m)) unsound) unlisted
 
 -- what a call leaves, as words: a sound store's content is laid out, and any other store is as it was
 abbrev pub laidOut : ℕ → Words → Store → Words

@@ -10,7 +10,7 @@ use lib.ListN.{getD}
 use lib.Dec.{eqb, leb, ltb}
 use Rattle.lists.specs.Every.{every, count, allTrue}
 use Rattle.lists.specs.Entries.{keyAt, keysAscend, zeroFrom}
-use Rattle.model.specs.Rows.{isWang, noRate, isCanonical}
+use Rattle.model.specs.Rows.{hasRmax, noRate, isCanonical}
 use Rattle.model.specs.Calls.{Sizes}
 use Rattle.model.specs.Words.{Words, headWidth, rowWidth, sizesOf}
 
@@ -62,11 +62,11 @@ postingLive w rs n ps i = liveId rs n (postingWord ps w i 1)
 
 -- "a Wang posting's anchor is at most its row's r_max"
 unfoldable pub anchorFine : ℕ → List ℕ → List ℕ → ℕ → Bool
-anchorFine w rs ps i = not (isWang w) || leb (postingWord ps w i 2) (rowWord rs (postingWord ps w i 1) 1)
+anchorFine w rs ps i = not (hasRmax w) || leb (postingWord ps w i 2) (rowWord rs (postingWord ps w i 1) 1)
 
 -- "Panako r_max is 0"
 unfoldable pub rmaxFine : ℕ → List ℕ → ℕ → Bool
-rmaxFine w rs j = isWang w || eqb (rowWord rs j 1) 0
+rmaxFine w rs j = hasRmax w || eqb (rowWord rs j 1) 0
 
 -- "no posting has a stopped key": posting i's is none of the first k
 unfoldable pub otherKey : List ℕ → ℕ → ℕ → Bool

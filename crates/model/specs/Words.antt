@@ -40,8 +40,8 @@ unfoldable pub sizesListed : Sizes → Bool
 sizesListed z = between 1 4096 (z .R) && (between 1 1048576 (z .P) && between 1 65536 (z .K))
 
 -- the slices' lengths are of those listed
-unfoldable pub listed : ℕ → Words → Bool
-listed w m =
+unfoldable pub slicesListed : ℕ → Words → Bool
+slicesListed w m =
     let z = sizesOf w m in
     sizesListed z && (eqb (length (m .references)) (headWidth + rowWidth * z .R) && eqb (length (m .postings)) (w * z .P))
 

@@ -7,7 +7,7 @@
 -- stopped is said by the store handed in, and then by the calls and their answers alone. `run panako` is what the contracts of
 -- `PanakoIndex::build`, `insert`, `remove`, `live_count` and `query` equal (src/lib.rt). proofs/Demand3.antt proves it.
 use Rattle.model.specs.Claim.{Claim}
-use Rattle.panako_judging.specs.Scheme.{panako}
+use Rattle.panako_judge.specs.Scheme.{panako}
 
 abbrev pub PanakoClaim : Type 0
 PanakoClaim = Claim panako

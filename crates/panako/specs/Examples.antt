@@ -23,7 +23,7 @@ use Rattle.model.specs.Rows.{canonical, isCanonical, rowOf, largestAnchor}
 use Rattle.model.specs.Index.{numbered, exceeds, stopKeys, inserted, builtFrom, erased}
 use Rattle.model.specs.Query.{Query, gather, tooManyVotes, candidate, bestBelow}
 use Rattle.model.specs.Calls.{nothing, query, buildTests, insertTests, plainTests, queryTests, scratchListed, buildStep, insertStep, removeStep, queryStep}
-use Rattle.model.specs.Words.{sizesOf, sizesListed, listed, rowEntries, write, readIndex}
+use Rattle.model.specs.Words.{sizesOf, sizesListed, slicesListed, rowEntries, write, readIndex}
 use Rattle.model.specs.Soundness.{countsFit, liveWord, stoppedStep, deadRow, otherEntry, vacantEntry, deadFine, rateFine, liveId, postingLive, anchorFine, rmaxFine, otherKey, keyUnstopped, entryUnused, soundTests, soundWords}
 use Rattle.model.specs.Run.{storeOf, runBuild, runInsert, runRemove, runQuery}
 use Rattle.model.specs.History.{leaves}
@@ -31,15 +31,15 @@ use Rattle.model.specs.Changes.{rate, Material, allRight}
 use Rattle.hough.specs.Hough.{houghSum, houghPeak, merged, peakOffset, farSum, farCount, prominence}
 use Rattle.panako_vote.specs.Settings.{normalised, withinLimits}
 use Rattle.panako_vote.specs.Grids.{binAt, gridOf}
-use Rattle.panako_vote.specs.Votes.{voteAt, voteOn}
-use Rattle.judging.specs.Gates.{peakGates, gates, resultAt}
+use Rattle.panako_vote.specs.Votes.{voteAtScale, voteOn}
+use Rattle.wang_judge.specs.Gates.{peakGates, gates, resultAt}
 use Rattle.bins.specs.Codes.{occupied, binsOf}
-use Rattle.panako_judging.specs.Judge.{seenOf, scaleOf, judgeBy}
-use Rattle.panako_judging.specs.Scheme.{beyond, votesOf, judge, panako}
+use Rattle.panako_judge.specs.Judge.{seenOf, timeScaleOf, judgeBy}
+use Rattle.panako_judge.specs.Scheme.{beyond, votesOf, judge, panako}
 
 -- scales 0.80 to 1.25 in 24 bins, tolerance 1, min_votes 1, min_score 0.25, min_prominence 0.5, and scratch for 6 votes
-abbrev asked : Query panako
-asked = record {
+abbrev probe : Query panako
+probe = record {
   ask = record {
     cfg = record {
       «scale_min» = ofBits binary32 0x3F4C_CCCD;
@@ -58,8 +58,8 @@ asked = record {
 
 -- the query meets the first 100 frames later by both of its hashes, the second by one, the third by none
 abbrev material : Material panako
-material = record { both = 7 ∷ 110 ∷ 115 ∷ 120 ∷ 9 ∷ 130 ∷ 135 ∷ 140 ∷ []; one = 7 ∷ 110 ∷ 115 ∷ 120 ∷ []; other = 5 ∷ 110 ∷ 115 ∷ 120 ∷ []; asked = asked }
+material = record { both = 7 ∷ 110 ∷ 115 ∷ 120 ∷ 9 ∷ 130 ∷ 135 ∷ 140 ∷ []; one = 7 ∷ 110 ∷ 115 ∷ 120 ∷ []; other = 5 ∷ 110 ∷ 115 ∷ 120 ∷ []; probe = probe }
 
 pub examples : T (allRight panako material)
-unfolding leaves runBuild runInsert runRemove runQuery storeOf listed sizesListed sizesOf soundWords soundTests countsFit liveWord stoppedStep deadRow otherEntry vacantEntry deadFine rateFine liveId postingLive anchorFine rmaxFine otherKey keyUnstopped entryUnused readIndex write rowEntries every count allTrue entries keysAscend zeroWord zeroFrom padded keep some? flat sum insertKey place placeAll buildStep insertStep removeStep queryStep buildTests insertTests plainTests queryTests scratchListed numbered inserted builtFrom erased exceeds stopKeys hashesOf divided malformed malformedBuild rowOf canonical isCanonical largestAnchor gather tooManyVotes candidate bestBelow better seenOf peakGates gates resultAt judgeBy beyond judge counting.count sumTo sumToℤ greatest first firstGreatest mode millis ratesAgree clampScore scoreOf roundToI64 abs maximum nanBits ofBits add sub mul div le lt ofInt isNan round votesOf occupied binsOf scaleOf houghSum houghPeak merged peakOffset farSum farCount prominence normalised withinLimits gridOf binAt voteAt voteOn perBin binCentre timeScale narrow toUnsigned
+unfolding leaves runBuild runInsert runRemove runQuery storeOf slicesListed sizesListed sizesOf soundWords soundTests countsFit liveWord stoppedStep deadRow otherEntry vacantEntry deadFine rateFine liveId postingLive anchorFine rmaxFine otherKey keyUnstopped entryUnused readIndex write rowEntries every count allTrue entries keysAscend zeroWord zeroFrom padded keep some? flat sum insertKey place placeAll buildStep insertStep removeStep queryStep buildTests insertTests plainTests queryTests scratchListed numbered inserted builtFrom erased exceeds stopKeys hashesOf divided malformed malformedBuild rowOf canonical isCanonical largestAnchor gather tooManyVotes candidate bestBelow better seenOf peakGates gates resultAt judgeBy beyond judge counting.countIf sumTo sumToℤ greatest first firstGreatest mode millis ratesAgree clampScore scoreOf roundToI64 abs maximum nanBits ofBits add sub mul div le lt ofInt isNan round votesOf occupied binsOf timeScaleOf houghSum houghPeak merged peakOffset farSum farCount prominence normalised withinLimits gridOf binAt voteAtScale voteOn perBin binCentre timeScale narrow toUnsigned
 examples = tt

@@ -16,7 +16,7 @@ use Rattle.floats.proofs.Whole.{half-up-le}
 use Rattle.lists.proofs.Tests.{test}
 use Rattle.panako_vote.specs.Settings.{Accepted}
 use Rattle.panako_vote.specs.Grids.{whole, outside, scaleBin, gridOf, Limited}
-use Rattle.panako_vote.specs.Votes.{offsetAt, noneIf, isVote, voteAt, span, scaleOf, voteOn, pairVote, InRange, Bounded}
+use Rattle.panako_vote.specs.Votes.{offsetAt, noneIf, isVote, voteAtScale, span, spanRatio, voteOn, pairVote, InRange, Bounded}
 use Rattle.panako_vote.specs.declared.PanakoMatchConfig.{PanakoMatchConfig}
 use Rattle.panako_vote.specs.declared.ScaleGrid.{ScaleGrid}
 use Rattle.panako_vote.specs.declared.Vote.{Vote}
@@ -49,7 +49,7 @@ not-above j k (fin true n d) (fin false m e) t h g =
 whole-sized : (n : ℕ) → n < 2 ^ 32 → Sized false 32 (whole n)
 whole-sized n h = sized-of-value 32 (whole n) n (whole-is n h) (le-of-lt h)
 
-scale-sized : (r q : ℕ) → r < 2 ^ 32 → q < 2 ^ 32 → 0 < q → Sized false 32 (scaleOf r q)
+scale-sized : (r q : ℕ) → r < 2 ^ 32 → q < 2 ^ 32 → 0 < q → Sized false 32 (spanRatio r q)
 scale-sized r q R Q N = sized-div binary64 32 false (whole r) (whole q) q (lit< tt) (whole-sized r R) (whole-is q Q) N
 
 -- ---- the offset
@@ -103,8 +103,8 @@ either false b h = h
 voting : (g : ScaleGrid) → Limited g → (x : Float) → Sized false 32 x → outside g x ≡ false → Sized false 7 x
 voting g L x X h = not-above 32 7 (g .high) x (L .high) X (either (lt x (g .low)) (lt (g .high) x) h)
 
-at-bounded : (g : ScaleGrid) → Limited g → (x : Float) (q r : ℕ) → Sized false 32 x → q < 2 ^ 32 → r < 2 ^ 32 → Bounded (g .«last_bin») (voteAt g x q r)
-unfolding voteAt
+at-bounded : (g : ScaleGrid) → Limited g → (x : Float) (q r : ℕ) → Sized false 32 x → q < 2 ^ 32 → r < 2 ^ 32 → Bounded (g .«last_bin») (voteAtScale g x q r)
+unfolding voteAtScale
 at-bounded g L x q r X Q R =
     test (outside g x) (λ h. rw h tt)
     (λ h. rw h (
@@ -113,7 +113,7 @@ at-bounded g L x q r X Q R =
     ))
 
 module _ (g : ScaleGrid) (L : Limited g) (qa qc ra rc : ℕ) (QA : qa < 2 ^ 32) (QC : qc < 2 ^ 32) (RA : ra < 2 ^ 32) (RC : rc < 2 ^ 32) where
-  some-span : eqb (span qa qc) 0 ≡ false → Sized false 32 (scaleOf (span ra rc) (span qa qc))
+  some-span : eqb (span qa qc) 0 ≡ false → Sized false 32 (spanRatio (span ra rc) (span qa qc))
   some-span h = scale-sized (span ra rc) (span qa qc) (lt-of-le-of-lt (sub-le rc ra) RC) (lt-of-le-of-lt (sub-le qc qa) QC) (pos-of-ne-zero (eqb-false (span qa qc) 0 h))
 
   pub vote-bounded : Bounded (g .«last_bin») (voteOn g qa qc ra rc)
@@ -121,16 +121,16 @@ module _ (g : ScaleGrid) (L : Limited g) (qa qc ra rc : ℕ) (QA : qa < 2 ^ 32) 
   vote-bounded =
       test (eqb (span qa qc) 0) (λ h. rw h tt)
       (λ h. test (eqb (span ra rc) 0) (λ k. rw (h, k) tt)
-      (λ k. rw (h, k) (at-bounded g L (scaleOf (span ra rc) (span qa qc)) qa ra (some-span h) QA RA)))
+      (λ k. rw (h, k) (at-bounded g L (spanRatio (span ra rc) (span qa qc)) qa ra (some-span h) QA RA)))
 
   -- what `pair_vote` asks of the offset before it is rounded, x being the scale
-  pub offset-inside : (x : Float) → x ≡ scaleOf (span ra rc) (span qa qc) → isVote (voteOn g qa qc ra rc) ≡ true → Inside (offset x qa ra)
-  unfolding voteOn voteAt
+  pub offset-inside : (x : Float) → x ≡ spanRatio (span ra rc) (span qa qc) → isVote (voteOn g qa qc ra rc) ≡ true → Inside (offset x qa ra)
+  unfolding voteOn voteAtScale
   offset-inside x e v =
-      let t = tests (At (scaleBin g (scaleOf (span ra rc) (span qa qc))) (offsetAt (scaleOf (span ra rc) (span qa qc)) qa ra)) (eqb (span qa qc) 0) (eqb (span ra rc) 0) (outside g (scaleOf (span ra rc) (span qa qc))) v in
+      let t = tests (At (scaleBin g (spanRatio (span ra rc) (span qa qc))) (offsetAt (spanRatio (span ra rc) (span qa qc)) qa ra)) (eqb (span qa qc) 0) (eqb (span ra rc) 0) (outside g (spanRatio (span ra rc) (span qa qc))) v in
       subst (λ (z : Float). Inside (offset z qa ra)) (sym e)
-      (inside (offset (scaleOf (span ra rc) (span qa qc)) qa ra)
-      (offset-sized (scaleOf (span ra rc) (span qa qc)) qa ra (voting g L (scaleOf (span ra rc) (span qa qc)) (some-span (t .0)) (t .1)) QA RA))
+      (inside (offset (spanRatio (span ra rc) (span qa qc)) qa ra)
+      (offset-sized (spanRatio (span ra rc) (span qa qc)) qa ra (voting g L (spanRatio (span ra rc) (span qa qc)) (some-span (t .0)) (t .1)) QA RA))
     where
       tests : (v : Vote) (a b o : Bool) → isVote (noneIf (a || b) (noneIf o v)) ≡ true → (a ≡ false) × (o ≡ false)
       tests v true b o h = absurd (true≢false (sym h))

@@ -9,7 +9,7 @@ use Rattle.floats.specs.Selection.{zero, one, abs}
 use Rattle.matching.specs.Scales.{two, perBin}
 use Rattle.panako_vote.specs.Settings.{defaultMin, defaultMax, normalised, withinLimits}
 use Rattle.panako_vote.specs.Grids.{binAt, gridOf}
-use Rattle.panako_vote.specs.Votes.{voteAt, voteOn, pairVote, checkedVote}
+use Rattle.panako_vote.specs.Votes.{voteAtScale, voteOn, pairVote, checkedVote}
 use Rattle.panako_vote.specs.declared.PanakoMatchConfig.{PanakoMatchConfig}
 use Rattle.panako_vote.specs.declared.Vote.the-variants.{Nothing, At}
 use Rattle.panako_vote.specs.declared.CheckedVote.the-variants as Checked
@@ -49,7 +49,7 @@ votes :
     × (pairVote grid 0 4 7 16 ≡ At 1 (pos 7))
     × (pairVote grid 0 4 7 17 ≡ Nothing)
     × (pairVote grid 9 4 7 16 ≡ Nothing)
-unfolding gridOf perBin voteOn voteAt binAt roundToI64 add sub mul div lt ofInt toUnsigned
+unfolding gridOf perBin voteOn voteAtScale binAt roundToI64 add sub mul div lt ofInt toUnsigned
 votes = (refl, refl, refl, refl, refl, refl, refl)
 
 -- equal spans: scale 1 lies in bin 0 of that grid, and below a grid of scales from 2 to 4
@@ -59,7 +59,7 @@ units :
     × (pairVote grid 250 260 100 110 ≡ At 0 (negsuc 149))
     × (gridOf (settings two four 2 1) .«unit_votes» ≡ false)
     × (pairVote (settings two four 2 1) 250 260 100 110 ≡ Nothing)
-unfolding gridOf perBin voteOn voteAt binAt roundToI64 add sub mul div lt ofInt toUnsigned
+unfolding gridOf perBin voteOn voteAtScale binAt roundToI64 add sub mul div lt ofInt toUnsigned
 units = (refl, refl, refl, refl, refl)
 
 -- "Tolerance 65,535 passes; 65,536 is refused 4."

@@ -15,7 +15,7 @@ use Rattle.lists.proofs.Tests.{test}
 use Rattle.floats.proofs.Order.{le-of-not-lt}
 use Rattle.floats.proofs.Whole.{whole-value}
 use Rattle.matching.specs.Scales.{half, perBin}
-use Rattle.panako_vote.specs.Settings.{binsOf, normalised, sixtyFour, withinLimits, Accepted}
+use Rattle.panako_vote.specs.Settings.{scaleBins, normalised, sixtyFour, withinLimits, Accepted}
 use Rattle.panako_vote.specs.Grids.{whole, per, gridOf, Limited}
 use Rattle.panako_vote.specs.declared.PanakoMatchConfig.{PanakoMatchConfig}
 use Rattle.panako_vote.specs.declared.ScaleGrid.{ScaleGrid}
@@ -83,7 +83,7 @@ grid-limited g cfg e = (e, λ A. subst Limited (sym e) (limited cfg A))
 
 -- ---- settings that are accepted
 
-some-bins : (n : ℕ) → 0 < binsOf n
+some-bins : (n : ℕ) → 0 < scaleBins n
 some-bins n = test (eqb n 0) (λ h. rw h (lit< tt)) (λ h. rw h (pos-of-ne-zero (eqb-false n 0 h)))
 
 some-normalised : (cfg : PanakoMatchConfig) → 0 < (normalised cfg) .«scale_bins»

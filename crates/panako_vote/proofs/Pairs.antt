@@ -7,7 +7,7 @@ use lib.Dec.{ltb, eqb}
 use borrow.Author.Tests.{ltb-true, ltb-false, eq-eqb, ne-eqb}
 use Rattle.lists.proofs.Tests.{test}
 use Rattle.panako_vote.specs.Grids.{outside, scaleBin}
-use Rattle.panako_vote.specs.Votes.{offsetAt, noneIf, voteAt, span, scaleOf, voteOn, isVote}
+use Rattle.panako_vote.specs.Votes.{offsetAt, noneIf, voteAtScale, span, spanRatio, voteOn, isVote}
 use Rattle.panako_vote.specs.declared.ScaleGrid.{ScaleGrid}
 use Rattle.panako_vote.specs.declared.Vote.{Vote}
 use Rattle.panako_vote.specs.declared.Vote.the-variants.{Nothing, At}
@@ -31,15 +31,15 @@ counted true true true v h = refl
 counted true true false v h = sym h
 
 module _ (g : ScaleGrid) (qa qc ra rc : ℕ) where
-  pub counts : (ltb qa qc && ltb ra rc && not (outside g (scaleOf (span ra rc) (span qa qc)))) ≡ isVote (voteOn g qa qc ra rc)
-  unfolding voteOn voteAt
+  pub counts : (ltb qa qc && ltb ra rc && not (outside g (spanRatio (span ra rc) (span qa qc)))) ≡ isVote (voteOn g qa qc ra rc)
+  unfolding voteOn voteAtScale
   counts =
-      let s = scaleOf (span ra rc) (span qa qc) in
+      let s = spanRatio (span ra rc) (span qa qc) in
       rw (zero-span qa qc, zero-span ra rc) (counted (ltb qa qc) (ltb ra rc) (outside g s) (At (scaleBin g s) (offsetAt s qa ra)) refl)
 
-  pub votes : isVote (voteOn g qa qc ra rc) ≡ true → (At (scaleBin g (scaleOf (span ra rc) (span qa qc))) (offsetAt (scaleOf (span ra rc) (span qa qc)) qa ra)) ≡ voteOn g qa qc ra rc
-  unfolding voteOn voteAt
-  votes = go (eqb (span qa qc) 0 || eqb (span ra rc) 0) (outside g (scaleOf (span ra rc) (span qa qc)))
+  pub votes : isVote (voteOn g qa qc ra rc) ≡ true → (At (scaleBin g (spanRatio (span ra rc) (span qa qc))) (offsetAt (spanRatio (span ra rc) (span qa qc)) qa ra)) ≡ voteOn g qa qc ra rc
+  unfolding voteOn voteAtScale
+  votes = go (eqb (span qa qc) 0 || eqb (span ra rc) 0) (outside g (spanRatio (span ra rc) (span qa qc)))
     where
       go : {v : Vote} (a b : Bool) → isVote (noneIf a (noneIf b v)) ≡ true → v ≡ noneIf a (noneIf b v)
       go true b h = absurd (false≢true h)

@@ -22,7 +22,7 @@ use Rattle.floats.specs.Selection.{one}
 use Rattle.floats.proofs.Whole.{apart, difference}
 use Rattle.lists.proofs.Tests.{test, and-left, and-right}
 use Rattle.panako_vote.specs.Grids.{whole, outside, scaleBin, Limited}
-use Rattle.panako_vote.specs.Votes.{offsetAt, noneIf, voteAt, span, scaleOf, voteOn}
+use Rattle.panako_vote.specs.Votes.{offsetAt, noneIf, voteAtScale, span, spanRatio, voteOn}
 use Rattle.panako_vote.specs.declared.ScaleGrid.{ScaleGrid}
 use Rattle.panako_vote.specs.declared.Vote.the-variants.{At}
 use Rattle.panako_vote.proofs.Sizes.{not-zero}
@@ -42,7 +42,7 @@ over-itself (fin false m e) p =
     rw (ne-eqb m 0 (not-zero m M))
     (round-same binary64 false (m * up e * down e) (m * up e * down e) 1 1 (mul-pos (mul-pos M (up-pos e)) (down-pos e)) (zero-lt-suc 0) (mul-comm (m * up e * down e) 1) ∙ one-is)
 
-scale-is : (n : ℕ) → 0 < n → n < 2 ^ 32 → scaleOf n n ≡ one
+scale-is : (n : ℕ) → 0 < n → n < 2 ^ 32 → spanRatio n n ≡ one
 scale-is n p h = over-itself (whole n) (positive-of-value (whole n) n 1 (whole-is n h) p)
 
 -- ---- the offset
@@ -130,7 +130,7 @@ module _ (r q : ℕ) (R : r < 2 ^ 32) (Q : q < 2 ^ 32) where
 
 module _ (g : ScaleGrid) (L : Limited g) (qa qc ra rc : ℕ) (QA : qa < 2 ^ 32) (QC : qc < 2 ^ 32) (RA : ra < 2 ^ 32) where
   by-scale : span ra rc ≡ span qa qc → 0 < span qa qc → noneIf (outside g one) (At (scaleBin g one) (pos ra -ℤ pos qa)) ≡ voteOn g qa qc ra rc
-  unfolding voteOn voteAt
+  unfolding voteOn voteAtScale
   by-scale e p =
       rw (e, ne-eqb (span qa qc) 0 (not-zero (span qa qc) p), scale-is (span qa qc) p (lt-of-le-of-lt (sub-le qc qa) QC), offset-is ra qa RA QA)
 

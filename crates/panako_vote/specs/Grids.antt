@@ -17,8 +17,8 @@ whole n = ofInt binary64 (pos n)
 -- ---- a scale on a grid, by the grid's parts
 
 -- "no vote if s < scale_min − per × 0.5 or s > scale_max + per × 0.5"
-abbrev pub beyond : Float → Float → Float → Bool
-beyond low high s = lt s low || lt high s
+abbrev pub notBetween : Float → Float → Float → Bool
+notBetween low high s = lt s low || lt high s
 
 -- "held to 0 .. scale_bins − 1, whole part": the last bin is scale_bins − 1
 unfoldable pub binAt : Float → ℕ → ℕ
@@ -31,7 +31,7 @@ binBy min per last s = binAt (div binary64 (sub binary64 s min) per) last
 -- ---- the same on a grid
 
 abbrev pub outside : ScaleGrid → Float → Bool
-outside g s = beyond (g .low) (g .high) s
+outside g s = notBetween (g .low) (g .high) s
 
 abbrev pub scaleBin : ScaleGrid → Float → ℕ
 scaleBin g s = binBy (g .«scale_min») (g .«scale_per_bin») (g .«last_bin») s
@@ -58,7 +58,7 @@ abbrev pub oneBin : PanakoMatchConfig → ℕ
 oneBin cfg = binBy (cfg .«scale_min») (per cfg) (lastBin cfg) one
 
 abbrev pub oneVotes : PanakoMatchConfig → Bool
-oneVotes cfg = not (beyond (lowest cfg) (highest cfg) one)
+oneVotes cfg = not (notBetween (lowest cfg) (highest cfg) one)
 
 unfoldable pub gridOf : PanakoMatchConfig → ScaleGrid
 gridOf cfg =

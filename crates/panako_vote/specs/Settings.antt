@@ -21,8 +21,8 @@ abbrev pub ascending : Float → Float → Bool
 ascending min max = finite min && finite max && lt min max
 
 -- "scale_bins 0 becomes 24"
-abbrev pub binsOf : ℕ → ℕ
-binsOf bins = cond (eqb bins 0) 24 bins
+abbrev pub scaleBins : ℕ → ℕ
+scaleBins bins = cond (eqb bins 0) 24 bins
 
 -- "scale_bins 0 becomes 24; scale ends that aren't finite and ascending become 0.80 and 1.25", both of them; all else stays
 unfoldable pub normalised : PanakoMatchConfig → PanakoMatchConfig
@@ -30,7 +30,7 @@ normalised cfg =
     record {
       «scale_min» = cond (ascending (cfg .«scale_min») (cfg .«scale_max»)) (cfg .«scale_min») defaultMin;
       «scale_max» = cond (ascending (cfg .«scale_min») (cfg .«scale_max»)) (cfg .«scale_max») defaultMax;
-      «scale_bins» = binsOf (cfg .«scale_bins»);
+      «scale_bins» = scaleBins (cfg .«scale_bins»);
       «offset_tolerance_frames» = cfg .«offset_tolerance_frames»;
       «min_votes» = cfg .«min_votes»;
       «min_score» = cfg .«min_score»;

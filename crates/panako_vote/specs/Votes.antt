@@ -23,22 +23,22 @@ noneIf true v = Nothing
 noneIf false v = v
 
 -- the vote of a pair with the scale s, by the two anchors
-unfoldable pub voteAt : ScaleGrid → Float → ℕ → ℕ → Vote
-voteAt g s query reference = noneIf (outside g s) (At (scaleBin g s) (offsetAt s query reference))
+unfoldable pub voteAtScale : ScaleGrid → Float → ℕ → ℕ → Vote
+voteAtScale g s query reference = noneIf (outside g s) (At (scaleBin g s) (offsetAt s query reference))
 
 -- "spans are t_c − t_anchor, held at 0 from below": so is `-` on natural numbers
 abbrev pub span : ℕ → ℕ → ℕ
 span anchor end = end - anchor
 
 -- "In f64, s = reference span / query span"
-abbrev pub scaleOf : ℕ → ℕ → Float
-scaleOf reference query = div binary64 (whole reference) (whole query)
+abbrev pub spanRatio : ℕ → ℕ → Float
+spanRatio reference query = div binary64 (whole reference) (whole query)
 
 -- the vote of a query hash and a posting, each by its t_anchor and t_c: "a pair with a zero span gives no vote"
 unfoldable pub voteOn : ScaleGrid → ℕ → ℕ → ℕ → ℕ → Vote
 voteOn g qa qc ra rc =
     noneIf (eqb (span qa qc) 0 || eqb (span ra rc) 0)
-    (voteAt g (scaleOf (span ra rc) (span qa qc)) qa ra)
+    (voteAtScale g (spanRatio (span ra rc) (span qa qc)) qa ra)
 
 -- the same under these settings
 abbrev pub pairVote : PanakoMatchConfig → ℕ → ℕ → ℕ → ℕ → Vote

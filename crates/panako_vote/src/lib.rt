@@ -9,9 +9,9 @@ ghost use lib.Dec.{eqb, ltb};
 ghost use lib.Ieee.{lt};
 ghost use lib.Ieee.Scale.{finite};
 ghost use Rattle.floats.specs.Selection.{zero};
-ghost use Rattle.panako_vote.specs.Settings.{ascending, binsOf, normalised, withinLimits, Accepted};
+ghost use Rattle.panako_vote.specs.Settings.{ascending, scaleBins, normalised, withinLimits, Accepted};
 ghost use Rattle.panako_vote.specs.Grids.{binAt, gridOf, Limited};
-ghost use Rattle.panako_vote.specs.Votes.{span, scaleOf, noneIf, voteOn, isVote, Bounded, checkedVote};
+ghost use Rattle.panako_vote.specs.Votes.{span, spanRatio, noneIf, voteOn, isVote, Bounded, checkedVote};
 ghost use Rattle.panako_vote.specs.declared.Vote.the-variants.{At};
 
 // The settings that the index uses.
@@ -41,7 +41,7 @@ fn is_ascending(min: f32, max: f32) -> bool
 
 // The number of scale bins, 24 where none is given.
 fn bins_or_default(bins: u32) -> u32
-    ensures { λ r. ⌜ r ≡ binsOf bins ⌝ }
+    ensures { λ r. ⌜ r ≡ scaleBins bins ⌝ }
 {
     if bins == 0 { 24 } else { bins }
 }
@@ -143,7 +143,7 @@ pub enum Vote {
 // The scale of a pair at q_anchor .. q_end and r_anchor .. r_end: the reference's span over the
 // query's, and a NaN or an infinity where the query has none.
 fn pair_scale(q_anchor: u32, q_end: u32, r_anchor: u32, r_end: u32) -> f64
-    ensures { λ s. ⌜ s ≡ scaleOf (span «r_anchor» «r_end») (span «q_anchor» «q_end») ⌝ }
+    ensures { λ s. ⌜ s ≡ spanRatio (span «r_anchor» «r_end») (span «q_anchor» «q_end») ⌝ }
 {
     let r_span = saturating_sub(r_end, r_anchor);
     let q_span = saturating_sub(q_end, q_anchor);

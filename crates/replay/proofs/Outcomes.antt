@@ -11,8 +11,8 @@ use Rattle.model.specs.Calls.{Answer, query}
 use Rattle.model.specs.Words.{Words}
 use Rattle.model.specs.Run.{run, runBuild, runInsert, runRemove}
 use Rattle.soundness.specs.Scan.{words}
-use Rattle.judging.specs.Scheme.{wang}
-use Rattle.panako_judging.specs.Scheme.{panako}
+use Rattle.wang_judge.specs.Scheme.{wang}
+use Rattle.panako_judge.specs.Scheme.{panako}
 use Rattle.capi.specs.Answers.{answerWords, wangAsked, panakoAsked}
 use Rattle.replay.specs.Outcomes.{widthOf, buildOutcome, insertOutcome, removeOutcome, found, queryOutcome, outcome, Ran}
 

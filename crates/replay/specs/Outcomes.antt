@@ -9,8 +9,8 @@ use Rattle.model.specs.Calls.{Answer, query}
 use Rattle.model.specs.Words.{Words}
 use Rattle.model.specs.Run.{run, runBuild, runInsert, runRemove, runCount}
 use Rattle.soundness.specs.Scan.{words}
-use Rattle.judging.specs.Scheme.{wang}
-use Rattle.panako_judging.specs.Scheme.{panako}
+use Rattle.wang_judge.specs.Scheme.{wang}
+use Rattle.panako_judge.specs.Scheme.{panako}
 use Rattle.capi.specs.Answers.{answerWords, wangAsked, panakoAsked}
 
 -- the words of a posting, of Wang's index or of Panako's

@@ -13,7 +13,7 @@ use borrow.Author.Tests.{lt-ltb, le-ltb, ne-eqb}
 use Rattle.lists.specs.Entries.{entries, entryAt}
 use Rattle.lists.proofs.Entries.{entries-suc, entry-word}
 use Rattle.model.specs.Fingerprints.{Hash, hashOf, hashesOf}
-use Rattle.model.specs.Rows.{canonical, noRate, isWang, anchor, largestAnchor}
+use Rattle.model.specs.Rows.{canonical, noRate, hasRmax, anchor, largestAnchor}
 
 pub canonical-nan : (rate : ℕ) → 0x7F80_0000 < rate % 0x8000_0000 → noRate ≡ canonical rate
 unfolding canonical
@@ -38,9 +38,9 @@ largest-more v words j h =
     let e : anchor (hashOf (entryAt v j words)) ≡ getD words (v * j + 1) 0 = getD-drop 1 (entryAt v j words) 0 0 ∙ entry-word v j words 1 h in
     sym (rw (add-one j, entries-suc v j words, map-append hashOf (entries v j words) (entryAt v j words ∷ []), largest-snoc, e))
 
-pub wang-max : (w : ℕ) (words : List ℕ) (r : ℕ) → w ≡ 3 → r ≡ largestAnchor (map hashOf (entries 2 (length words / 2) words)) → r ≡ cond (isWang w) (largestAnchor (hashesOf w words)) 0
+pub wang-max : (w : ℕ) (words : List ℕ) (r : ℕ) → w ≡ 3 → r ≡ largestAnchor (map hashOf (entries 2 (length words / 2) words)) → r ≡ cond (hasRmax w) (largestAnchor (hashesOf w words)) 0
 unfolding hashesOf
 wang-max w words r e h = rw e h
 
-pub other-max : (w : ℕ) (words : List ℕ) → (w ≡ 3 → ⊥) → 0 ≡ cond (isWang w) (largestAnchor (hashesOf w words)) 0
+pub other-max : (w : ℕ) (words : List ℕ) → (w ≡ 3 → ⊥) → 0 ≡ cond (hasRmax w) (largestAnchor (hashesOf w words)) 0
 other-max w words n = rw (ne-eqb w 3 n)

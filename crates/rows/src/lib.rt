@@ -6,7 +6,7 @@ ghost use Prim.Native.Nat.{_+_, _*_, _<_, _≤_, max};
 ghost use lib.ListN.{length};
 ghost use Rattle.lists.specs.Entries.{entries};
 ghost use Rattle.model.specs.Fingerprints.{hashOf, hashesOf, malformed};
-ghost use Rattle.model.specs.Rows.{isWang, largestAnchor, canonical};
+ghost use Rattle.model.specs.Rows.{hasRmax, largestAnchor, canonical};
 ghost use Rattle.model.specs.Soundness.{rowWord};
 ghost use Rattle.rows.specs.References.{CountsOf, headerPut, rowPut, entryPut};
 
@@ -111,7 +111,7 @@ fn largest_anchor(hashes: &[u32], v: usize, n: usize) -> u32
 // The r_max of a recording's row, from all of its hashes.
 pub fn row_max(hashes: &[u32], w: usize) -> u32
     requires { ⌜ 3 ≤ w ⌝ }
-    ensures { λ r. ⌜ r ≡ cond (isWang w) (largestAnchor (hashesOf w (now (hashes .entry)))) 0 ⌝ }
+    ensures { λ r. ⌜ r ≡ cond (hasRmax w) (largestAnchor (hashesOf w (now (hashes .entry)))) 0 ⌝ }
 {
     if w == 3 {
         return largest_anchor(hashes, 2, hashes.len() / 2);

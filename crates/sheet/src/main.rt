@@ -1,11 +1,11 @@
-// The program sheet: a card on standard input, its sheet on standard output. Crate `card` says what a card means (specs/Sheet.antt) and takes
+// The program sheet: a card on standard input, its sheet on standard output. Crate `sheet_card` says what a card means (specs/Sheet.antt) and takes
 // every decision, and shows that turn after turn gives the sheet (proofs/Printed.antt). Here bytes are read, turns are taken and lines are written,
 // with buffers of fixed sizes.
 ghost use mathlib.Core.Path.{_≡_};
 ghost use Prim.Native.Nat.{_+_, _≤_};
 ghost use lib.ListN.{length};
-ghost use Rattle.kinds.specs.Kinds.{zeroScratch};
-ghost use Rattle.card.specs.Sheet.{emptyStore};
+ghost use Rattle.sheet_kinds.specs.Kinds.{zeroScratch};
+ghost use Rattle.sheet_card.specs.Sheet.{emptyStore};
 
 // Reads what there is of the input into a part of `bytes`, and answers how many bytes that is.
 fn read_part(bytes: &mut [u8], start: usize, end: usize) -> usize
@@ -21,7 +21,7 @@ fn read_record(bytes: &mut [u8]) -> usize
     ensures { λ r. ⌜ r ≤ 8196 ⌝ }
 {
     let got = read_part(bytes, 0, 4);
-    let len = card::body_length(&bytes[..got]);
+    let len = sheet_card::body_length(&bytes[..got]);
     let more = read_part(bytes, 4, 4 + len);
     got + more
 }
@@ -51,13 +51,13 @@ fn run(
     requires { ⌜ (now scratch ≡ zeroScratch) × (8196 ≤ length (now bytes)) × (256 ≤ length (now out)) ⌝ }
 {
     let got = read_part(bytes, 0, 1);
-    let start = card::begin(&bytes[..got], out);
+    let start = sheet_card::begin(&bytes[..got], out);
     let mut at = start.end;
     let mut p = start.next;
-    while card::goes_on(p) {
+    while sheet_card::goes_on(p) {
         let free = flushed(out, at);
         let n = read_record(bytes);
-        let t = card::turn(&bytes[..n], refs, postings, stopped, scratch, out, free, p);
+        let t = sheet_card::turn(&bytes[..n], refs, postings, stopped, scratch, out, free, p);
         at = t.end;
         p = t.next;
     }

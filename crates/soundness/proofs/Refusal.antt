@@ -7,35 +7,35 @@ use Prim.Native.Nat.{ℕ}
 use native.Mathlib.Omega.{arith}
 use Rattle.lists.proofs.Tests.{test}
 use Rattle.model.specs.Calls.{isUnlisted, isUnsound, refusal}
-use Rattle.model.specs.Words.{Words, listed}
+use Rattle.model.specs.Words.{Words, slicesListed}
 use Rattle.model.specs.Soundness.{soundWords}
 use Rattle.model.specs.Run.{storeOf}
 use Rattle.model.proofs.Stores.{store-holds, store-unsound, store-unlisted}
 use Rattle.soundness.specs.Scan.{refusalOf}
 
 module _ (w : ℕ) (m : Words) where
-  pub refusal-unlisted : listed w m ≡ false → refusalOf w m ≡ 1
+  pub refusal-unlisted : slicesListed w m ≡ false → refusalOf w m ≡ 1
   unfolding refusalOf
   refusal-unlisted l = rw l
 
-  pub refusal-unsound : listed w m ≡ true → soundWords w m ≡ false → refusalOf w m ≡ 2
+  pub refusal-unsound : slicesListed w m ≡ true → soundWords w m ≡ false → refusalOf w m ≡ 2
   unfolding refusalOf
   refusal-unsound l s = rw (l, s)
 
-  pub refusal-none : listed w m ≡ true → soundWords w m ≡ true → refusalOf w m ≡ 0
+  pub refusal-none : slicesListed w m ≡ true → soundWords w m ≡ true → refusalOf w m ≡ 0
   unfolding refusalOf
   refusal-none l s = rw (l, s)
 
   -- where it is not refused, the slices' lengths are listed and the words sound
-  pub accepted : refusalOf w m ≡ 0 → (listed w m ≡ true) × (soundWords w m ≡ true)
-  accepted e = test (listed w m)
+  pub accepted : refusalOf w m ≡ 0 → (slicesListed w m ≡ true) × (soundWords w m ≡ true)
+  accepted e = test (slicesListed w m)
       (λ l. test (soundWords w m) (λ s. (l, s)) (λ s. absurd (omega (arith, refusal-unsound l s))))
       (λ l. absurd (omega (arith, refusal-unlisted l)))
 
   -- in a table that begins with 1 and 2, they come first
   pub refused-first : (rest : List (ℕ × Bool)) → (refusalOf w m ≡ 0 → ⊥)
       → refusal ((1, isUnlisted (storeOf w m)) ∷ (2, isUnsound (storeOf w m)) ∷ rest) ≡ some (refusalOf w m)
-  refused-first rest n = test (listed w m)
+  refused-first rest n = test (slicesListed w m)
       (λ l. test (soundWords w m)
       (λ s. absurd (n (refusal-none l s)))
       (λ s. rw (store-unsound w m l s, refusal-unsound l s)))

@@ -11,7 +11,7 @@ use lib.Ieee.Bits.{nanBits-above}
 use borrow.Author.Tests.{leb-true, leb-false, lt-ltb, le-ltb, eq-eqb, ne-eqb}
 use Rattle.lists.specs.Entries.{zeroWord}
 use Rattle.lists.proofs.Tests.{test}
-use Rattle.model.specs.Rows.{isWang, noRate, isCanonical}
+use Rattle.model.specs.Rows.{hasRmax, noRate, isCanonical}
 use Rattle.model.specs.Soundness.{rowWord, liveWord, deadFine, rateFine, rmaxFine, deadRow, entryUnused}
 use Rattle.soundness.specs.Scan.{rowTest, rowFine}
 
@@ -36,7 +36,7 @@ canonical-test rate d = rw (ne-eqb rate noRate d, nanBits-above binary32 rate) (
 -- the four conditions on a row, from its words
 pub row-fine : (w : ℕ) (rs : List ℕ) (j : ℕ) → rowTest w (rowWord rs j 0) (rowWord rs j 1) (rowWord rs j 2) ≡ rowFine w rs j
 unfolding rowTest rowFine liveWord deadFine rateFine rmaxFine deadRow
-row-fine w rs j = same (leb (rowWord rs j 2) 1) (eqb (rowWord rs j 2) 0) (eqb (rowWord rs j 0) noRate) (eqb (rowWord rs j 1) 0) (isCanonical (rowWord rs j 0)) (isWang w)
+row-fine w rs j = same (leb (rowWord rs j 2) 1) (eqb (rowWord rs j 2) 0) (eqb (rowWord rs j 0) noRate) (eqb (rowWord rs j 1) 0) (isCanonical (rowWord rs j 0)) (hasRmax w)
   where
     same : (live dead none nought fine wang : Bool)
         → live && cond dead (none && nought) (fine && (wang || nought)) ≡ live && ((not dead || (none && nought)) && ((dead || fine) && (wang || nought)))

@@ -13,15 +13,15 @@ use Rattle.lists.specs.Entries.{keysAscend, zeroFrom}
 use Rattle.lists.proofs.Tests.{and-left, and-right, yes-and, no-and, both-true, both-ways, all-true-at, all-more, all-none}
 use Rattle.lists.proofs.Every.{every-and}
 use Rattle.model.specs.Calls.{Sizes}
-use Rattle.model.specs.Words.{sizesOf, sizesListed, between, listed}
+use Rattle.model.specs.Words.{sizesOf, sizesListed, between, slicesListed}
 use Rattle.model.specs.Soundness.{countsFit, liveWord, stoppedStep, deadRow, vacantEntry, deadFine, rateFine, postingLive, anchorFine, rmaxFine, keyUnstopped, entryUnused, soundTests, soundWords}
 use Rattle.model.proofs.Stores.{sizes-listed, references-long, postings-long}
 use Rattle.soundness.specs.Scan.{words, lengthsListed, rowFine, entryFine, rowsSound, postingsSound, stopsAscend, stoppedSound, soundAt, Fits}
 
 -- ---- lengths
 
-pub listed-is : (w : ℕ) (rs ps ss : List ℕ) → lengthsListed w (length rs) (length ps) (length ss) ≡ listed w (words rs ps ss)
-unfolding lengthsListed listed sizesListed sizesOf
+pub listed-is : (w : ℕ) (rs ps ss : List ℕ) → lengthsListed w (length rs) (length ps) (length ss) ≡ slicesListed w (words rs ps ss)
+unfolding slicesListed lengthsListed sizesListed sizesOf
 listed-is w rs ps ss = refl
 
 -- ---- several tests in one pass
@@ -86,7 +86,7 @@ keys-up w rs n ps p e = and-left (keysAscend ps w p) _ (and-left (keysAscend ps 
 
 -- ---- the whole
 
-module _ (w : ℕ) (rs ps ss : List ℕ) (w3 : 3 ≤ w) (l : listed w (words rs ps ss) ≡ true) where
+module _ (w : ℕ) (rs ps ss : List ℕ) (w3 : 3 ≤ w) (l : slicesListed w (words rs ps ss) ≡ true) where
   abbrev z : Sizes
   z = sizesOf w (words rs ps ss)
 

@@ -6,9 +6,9 @@ use lib.ListN.{length}
 use lib.Dec.{eqb, leb}
 use Rattle.lists.specs.Every.{every, count}
 use Rattle.lists.specs.Entries.{keyAt, keysAscend, zeroFrom}
-use Rattle.model.specs.Rows.{isWang, noRate, isCanonical}
+use Rattle.model.specs.Rows.{hasRmax, noRate, isCanonical}
 use Rattle.model.specs.Calls.{Sizes}
-use Rattle.model.specs.Words.{Words, between, listed}
+use Rattle.model.specs.Words.{Words, between, slicesListed}
 use Rattle.model.specs.Soundness.{rowWord, countsFit, liveWord, deadFine, rateFine, rmaxFine, deadRow, vacantEntry, entryUnused, postingLive, anchorFine, keyUnstopped, stoppedStep, soundWords}
 
 -- the three slices
@@ -23,7 +23,7 @@ lengthsListed w a b c =
 -- a row in use, by its words
 unfoldable pub rowTest : ℕ → ℕ → ℕ → ℕ → Bool
 rowTest w rate rmax live =
-    leb live 1 && cond (eqb live 0) (eqb rate noRate && eqb rmax 0) (isCanonical rate && (isWang w || eqb rmax 0))
+    leb live 1 && cond (eqb live 0) (eqb rate noRate && eqb rmax 0) (isCanonical rate && (hasRmax w || eqb rmax 0))
 
 -- the four conditions on row j
 unfoldable pub rowFine : ℕ → List ℕ → ℕ → Bool
@@ -74,4 +74,4 @@ pub record Fits (w : ℕ) (rs ps ss : List ℕ) (n v p k : ℕ) : Type 0 where
 -- why a call on a store is refused before anything else is looked at: 1 unlisted, 2 unsound, 0 neither.
 -- "The lowest number that applies is returned."
 unfoldable pub refusalOf : ℕ → Words → ℕ
-refusalOf w m = cond (listed w m) (cond (soundWords w m) 0 2) 1
+refusalOf w m = cond (slicesListed w m) (cond (soundWords w m) 0 2) 1

@@ -7,7 +7,7 @@ ghost use lib.Dec.{ltb, eqb};
 ghost use Rattle.lists.specs.Every.{every, count};
 ghost use Rattle.lists.specs.Entries.{keyAt, keysAscend, zeroFrom};
 ghost use Rattle.model.specs.Rows.{isCanonical};
-ghost use Rattle.model.specs.Words.{between, listed};
+ghost use Rattle.model.specs.Words.{between, slicesListed};
 ghost use Rattle.model.specs.Soundness.{countsFit, deadRow, vacantEntry, entryUnused, keyUnstopped, soundWords};
 ghost use Rattle.soundness.specs.Scan.{words, lengthsListed, rowTest, rowFine, entryFine, rowsSound, postingsSound, stopsAscend, stoppedSound, refusalOf, Fits};
 use postings::at;
@@ -178,7 +178,7 @@ fn entries_unused(refs: &[u32], n: usize, v: usize) -> bool
 }
 
 // Whether every word from place a on is zero.
-fn zero_from(s: &[u32], a: usize) -> bool
+fn is_zero_from(s: &[u32], a: usize) -> bool
     requires { ⌜ a ≤ length (now s) ⌝ }
     ensures { λ r. ⌜ r ≡ zeroFrom (now (s .entry)) a ⌝ }
 {
@@ -211,7 +211,7 @@ fn rows_sound(refs: &[u32], w: usize, n: usize, v: usize) -> bool
     if !entries_unused(refs, n, v) {
         return false;
     }
-    zero_from(refs, 4 + 4 * n)
+    is_zero_from(refs, 4 + 4 * n)
 }
 
 // Whether posting i has a live id and, in a Wang store, an anchor of at most that row's r_max.
@@ -260,7 +260,7 @@ fn postings_sound(refs: &[u32], n: usize, posts: &[u32], w: usize, p: usize) -> 
     if !entries_fine(refs, n, posts, w, p) {
         return false;
     }
-    zero_from(posts, w * p)
+    is_zero_from(posts, w * p)
 }
 
 // Whether the stopped keys ascend.
@@ -319,7 +319,7 @@ fn stopped_sound(stops: &[u32], k: usize, posts: &[u32], w: usize, p: usize) -> 
     if !none_stopped(stops, k, posts, w, p) {
         return false;
     }
-    zero_from(stops, k)
+    is_zero_from(stops, k)
 }
 
 // Whether the words are sound where the numbers in use fit.
@@ -347,7 +347,7 @@ fn sound_within(
 
 // Whether the words of a store, whose slices have lengths that are listed, are sound.
 fn words_sound(refs: &[u32], posts: &[u32], stops: &[u32], w: usize) -> bool
-    requires { ⌜ (3 ≤ w) × (listed w (words (now refs) (now posts) (now stops)) ≡ true) ⌝ }
+    requires { ⌜ (3 ≤ w) × (slicesListed w (words (now refs) (now posts) (now stops)) ≡ true) ⌝ }
     ensures { λ r. ⌜ r ≡ soundWords w (words (now (refs .entry)) (now (posts .entry)) (now (stops .entry))) ⌝ }
 {
     let h = rows::header(refs);
@@ -372,7 +372,7 @@ fn words_sound(refs: &[u32], posts: &[u32], stops: &[u32], w: usize) -> bool
 // Whether the lengths of a store's slices are of those listed.
 pub fn is_listed(refs: &[u32], posts: &[u32], stops: &[u32], w: usize) -> bool
     requires { ⌜ 3 ≤ w ⌝ }
-    ensures { λ r. ⌜ r ≡ listed w (words (now (refs .entry)) (now (posts .entry)) (now (stops .entry))) ⌝ }
+    ensures { λ r. ⌜ r ≡ slicesListed w (words (now (refs .entry)) (now (posts .entry)) (now (stops .entry))) ⌝ }
 {
     lengths_listed(refs.len(), posts.len(), stops.len(), w)
 }

@@ -14,7 +14,7 @@
 -- stopped is said by the store handed in, and then by the calls and their answers alone. `run wang` is what the contracts of
 -- `WangIndex::build`, `insert`, `remove`, `live_count` and `query` equal (src/lib.rt). proofs/Demand3.antt proves it.
 use Rattle.model.specs.Claim.{Claim}
-use Rattle.judging.specs.Scheme.{wang}
+use Rattle.wang_judge.specs.Scheme.{wang}
 
 abbrev pub WangClaim : Type 0
 WangClaim = Claim wang

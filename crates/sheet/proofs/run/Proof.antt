@@ -1,8 +1,8 @@
 -- `sheet::run` meets its contract. The invariant: the scratch is zeros, the lines end in the buffer, and there are no more records than bytes. The
 -- measure is what is left until the limit. Assumes nothing.
-use Rattle.kinds.specs.Kinds.{zeroScratch}
-use Rattle.card.proofs.Turns.{left, Next, next-turn, below-limit, started-counts}
-use Rattle.card.specs.Turns.{goesOn}
+use Rattle.sheet_kinds.specs.Kinds.{zeroScratch}
+use Rattle.sheet_card.proofs.Turns.{left, Next, next-turn, below-limit, started-counts}
+use Rattle.sheet_card.specs.Turns.{goesOn}
 use lib.Seq.{length-take-le}
 use lib.ListN.{length}
 use Prim.Native.Nat.{_≤_}

@@ -1,5 +1,5 @@
 -- `sheet::zero_references` meets its contract. Assumes nothing.
-use Rattle.card.specs.Sheet.{zeroed, emptyStore}
+use Rattle.sheet_card.specs.Sheet.{zeroed, emptyStore}
 use mathlib.Core.Path.{refl}
 use Rattle.sheet.proofs.zero_references.Statement.{statement}
 use Rattle.sheet.proofs.zero_references.Tie as tie

@@ -1,5 +1,5 @@
 -- `sheet::zero_scratch` meets its contract. Assumes nothing.
-use Rattle.kinds.specs.Kinds.{zeroScratch}
+use Rattle.sheet_kinds.specs.Kinds.{zeroScratch}
 use mathlib.Core.Path.{refl}
 use Rattle.sheet.proofs.zero_scratch.Statement.{statement}
 use Rattle.sheet.proofs.zero_scratch.Tie as tie

@@ -15,16 +15,16 @@ returns : tie.Need-returns
 unfolding postingsSound
 returns c = rw (sym (c .before .entries-fine .ensures) ∙ not-true _ (c .if1 .taken))
 
-mul-zero-from : tie.Need-mul-zero-from
-mul-zero-from c = search needs
+mul-is-zero-from : tie.Need-mul-is-zero-from
+mul-is-zero-from c = search needs
 
-zero-from-requires : tie.Need-zero-from-requires
-zero-from-requires c κs = search needs
+is-zero-from-requires : tie.Need-is-zero-from-requires
+is-zero-from-requires c κs = search needs
 
 returns-2 : tie.Need-returns-2
 unfolding postingsSound
-returns-2 c = rw (sym (c .before .before .entries-fine .ensures) ∙ not-false _ (c .before .if1 .left)) (c .zero-from .ensures)
+returns-2 c = rw (sym (c .before .before .entries-fine .ensures) ∙ not-false _ (c .before .if1 .left)) (c .is-zero-from .ensures)
 
 pub postings-sound-spec : {M : Type 1} → statement M
 postings-sound-spec =
-    tie.close (tie.spec entries-fine-requires returns mul-zero-from zero-from-requires returns-2)
+    tie.close (tie.spec entries-fine-requires returns mul-is-zero-from is-zero-from-requires returns-2)

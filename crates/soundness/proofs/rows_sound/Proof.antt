@@ -36,18 +36,18 @@ returns-4 : tie.Need-returns-4
 unfolding rowsSound
 returns-4 c = rw (sym (c .before .before .before .before .before .before .before .rows-fine .ensures) ∙ not-false _ (c .before .before .before .before .before .before .if1 .left), eq-eqb _ _ (sym (c .before .before .before .before .before .dead-count .ensures) ∙ c .before .before .before .before .if2 .left), sym (c .before .before .before .vacants-fine .ensures) ∙ not-false _ (c .before .before .if3 .left), sym (c .before .entries-unused .ensures) ∙ not-true _ (c .if4 .taken))
 
-mul-zero-from : tie.Need-mul-zero-from
-mul-zero-from c = search needs
+mul-is-zero-from : tie.Need-mul-is-zero-from
+mul-is-zero-from c = search needs
 
-add-zero-from : tie.Need-add-zero-from
-add-zero-from c = search needs
+add-is-zero-from : tie.Need-add-is-zero-from
+add-is-zero-from c = search needs
 
-zero-from-requires : tie.Need-zero-from-requires
-zero-from-requires c κs = search needs
+is-zero-from-requires : tie.Need-is-zero-from-requires
+is-zero-from-requires c κs = search needs
 
 returns-5 : tie.Need-returns-5
 unfolding rowsSound
-returns-5 c = rw (sym (c .before .before .before .before .before .before .before .before .rows-fine .ensures) ∙ not-false _ (c .before .before .before .before .before .before .before .if1 .left), eq-eqb _ _ (sym (c .before .before .before .before .before .before .dead-count .ensures) ∙ c .before .before .before .before .before .if2 .left), sym (c .before .before .before .before .vacants-fine .ensures) ∙ not-false _ (c .before .before .before .if3 .left), sym (c .before .before .entries-unused .ensures) ∙ not-false _ (c .before .if4 .left)) (c .zero-from .ensures)
+returns-5 c = rw (sym (c .before .before .before .before .before .before .before .before .rows-fine .ensures) ∙ not-false _ (c .before .before .before .before .before .before .before .if1 .left), eq-eqb _ _ (sym (c .before .before .before .before .before .before .dead-count .ensures) ∙ c .before .before .before .before .before .if2 .left), sym (c .before .before .before .before .vacants-fine .ensures) ∙ not-false _ (c .before .before .before .if3 .left), sym (c .before .before .entries-unused .ensures) ∙ not-false _ (c .before .if4 .left)) (c .is-zero-from .ensures)
 
 pub rows-sound-spec : {M : Type 1} → statement M
 rows-sound-spec =
@@ -61,7 +61,7 @@ rows-sound-spec =
     returns-3
     entries-unused-requires
     returns-4
-    mul-zero-from
-    add-zero-from
-    zero-from-requires
+    mul-is-zero-from
+    add-is-zero-from
+    is-zero-from-requires
     returns-5)

@@ -23,12 +23,12 @@ returns-2 : tie.Need-returns-2
 unfolding stoppedSound
 returns-2 c = rw (sym (c .before .before .before .stops-ascend .ensures) ∙ not-false _ (c .before .before .if1 .left), sym (c .before .none-stopped .ensures) ∙ not-true _ (c .if2 .taken))
 
-zero-from-requires : tie.Need-zero-from-requires
-zero-from-requires c κs = search needs
+is-zero-from-requires : tie.Need-is-zero-from-requires
+is-zero-from-requires c κs = search needs
 
 returns-3 : tie.Need-returns-3
 unfolding stoppedSound
-returns-3 c = rw (sym (c .before .before .before .before .stops-ascend .ensures) ∙ not-false _ (c .before .before .before .if1 .left), sym (c .before .before .none-stopped .ensures) ∙ not-false _ (c .before .if2 .left)) (c .zero-from .ensures)
+returns-3 c = rw (sym (c .before .before .before .before .stops-ascend .ensures) ∙ not-false _ (c .before .before .before .if1 .left), sym (c .before .before .none-stopped .ensures) ∙ not-false _ (c .before .if2 .left)) (c .is-zero-from .ensures)
 
 pub stopped-sound-spec : {M : Type 1} → statement M
 stopped-sound-spec =
@@ -38,5 +38,5 @@ stopped-sound-spec =
     returns
     none-stopped-requires
     returns-2
-    zero-from-requires
+    is-zero-from-requires
     returns-3)

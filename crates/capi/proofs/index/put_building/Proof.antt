@@ -1,6 +1,6 @@
 -- `capi::index::put_building` meets its contract. Assumes nothing.
 use mathlib.Core.Path.{sym, ap}
-use Rattle.building.specs.Answers.{buildingAnswer}
+use Rattle.build.specs.Answers.{buildingAnswer}
 use Rattle.capi.specs.Answers.{answerWords}
 use borrow.Author.Needs.{needs}
 use Rattle.capi.proofs.index.put_building.Statement.{statement}

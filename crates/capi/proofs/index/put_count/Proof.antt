@@ -1,6 +1,6 @@
 -- `capi::index::put_count` meets its contract. Assumes nothing.
 use mathlib.Core.Path.{sym, ap}
-use Rattle.store.specs.Answers.{countAnswer}
+use Rattle.remove.specs.Answers.{countAnswer}
 use Rattle.capi.specs.Answers.{answerWords}
 use borrow.Author.Needs.{needs}
 use Rattle.capi.proofs.index.put_count.Statement.{statement}

@@ -1,6 +1,6 @@
 -- `capi::index::put_finding` meets its contract. Assumes nothing.
 use mathlib.Core.Path.{sym, ap, _∙_}
-use Rattle.ranking.specs.Answers.{findingAnswer}
+use Rattle.query_rank.specs.Answers.{findingAnswer}
 use Rattle.capi.specs.Answers.{answerWords}
 use borrow.Author.Needs.{needs}
 use Rattle.capi.proofs.index.put_finding.Statement.{statement}

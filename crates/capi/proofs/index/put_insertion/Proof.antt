@@ -1,6 +1,6 @@
 -- `capi::index::put_insertion` meets its contract. Assumes nothing.
 use mathlib.Core.Path.{sym, ap}
-use Rattle.insertion.specs.Insert.{insertionAnswer}
+use Rattle.insert.specs.Insert.{insertionAnswer}
 use Rattle.capi.specs.Answers.{answerWords}
 use borrow.Author.Needs.{needs}
 use Rattle.capi.proofs.index.put_insertion.Statement.{statement}

@@ -3,9 +3,9 @@ use mathlib.Core.Path.{ap₂}
 use lib.ListN.{length}
 use lib.Ieee.{Float}
 use Rattle.soundness.specs.Scan.{words}
-use Rattle.judging.specs.declared.WangMatchConfig.{WangMatchConfig}
-use Rattle.judging.specs.Scheme.{wang}
-use Rattle.querying.specs.Asked.{asked}
+use Rattle.wang_judge.specs.declared.WangMatchConfig.{WangMatchConfig}
+use Rattle.wang_judge.specs.Scheme.{wang}
+use Rattle.wang_query.specs.Arguments.{queryWith}
 use Rattle.capi.proofs.Queries.{query-answered}
 use borrow.Author.Needs.{needs}
 use Rattle.capi.proofs.index.wang_index_query.Statement.{statement}
@@ -30,7 +30,7 @@ returns : tie.Need-returns
 returns c =
     let a = c .before .before .before .before .before .before .before .before .before .before .before .args in
     let k = c .before .before .query in
-    let e = ap₂ (λ (g : WangMatchConfig) (r : Float). asked g r (a .hashes .now) (length (a .scratch .now))) (c .before .before .before .before .before .before .config-of .ensures) (c .before .before .before .before .before .f32-from-bits .ensures) in
+    let e = ap₂ (λ (g : WangMatchConfig) (r : Float). queryWith g r (a .hashes .now) (length (a .scratch .now))) (c .before .before .before .before .before .before .config-of .ensures) (c .before .before .before .before .before .f32-from-bits .ensures) in
     query-answered wang (words (a .refs .now) (a .postings .now) (a .stopped .now)) _ _ e (a .scratch .now) _ _ (k .result) (c .put-finding .ensures) (k .ensures .0) (k .ensures .1 .1)
 
 pub wang-index-query-spec : {M : Type 1} → statement M

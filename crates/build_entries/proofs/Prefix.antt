@@ -1,0 +1,131 @@
+-- Laws of what a list begins with, after stores behind it. Assumes nothing.
+use mathlib.Core.Path.{_≡_, refl, ap, _∙_}
+use mathlib.Core.Logic.{_⊎_, inl, inr}
+use mathlib.Core.List.{List, [], _∷_, _++_, map, map-append, append-assoc, append-nil}
+use Prim.Native.Nat.{ℕ, suc, _+_, _*_, _-_, _≤_, _<_}
+use native.Mathlib.Nat.{mul-zero, mul-suc, suc-mul, mul-le-mul-left}
+use native.Mathlib.Numerals.{add-one}
+use native.Mathlib.Omega.{arith}
+use lib.ListN.{length, getD, take, drop, set, replicate, length-set, length-drop}
+use lib.Seq.{drop-length, take-suc, take-suc-set, getD-drop, getD-set-same, getD-set-other}
+use Rattle.lists.specs.Lists.{flat, sum}
+use Rattle.lists.proofs.Keep.{flat-append, flat-one}
+use Rattle.postings.specs.Retain.{cleared}
+use Rattle.build_ranges.specs.Codes.{tabulate}
+use Rattle.build_ranges.proofs.Ranks.{listed-more}
+use Rattle.build_entries.specs.Laid.{SameFrom, StartsTo}
+
+-- a word more behind what the list begins with
+pub put-behind : (s : List ℕ) (at x : ℕ) (front : List ℕ) → at < length s → take at s ≡ front → take (at + 1) (set s at x) ≡ front ++ x ∷ []
+put-behind s at x front h e = rw (add-one at) (take-suc-set s at x h ∙ ap (λ l. l ++ x ∷ []) e)
+
+-- ---- copying
+
+pub copy-none : (dst : List ℕ) (to : ℕ) (src : List ℕ) (from : ℕ) → take (to + 0) dst ≡ take to dst ++ take 0 (drop from src)
+copy-none dst to src from = let e : to + 0 ≡ to = omega arith in rw (e, append-nil)
+
+pub copy-more : (dst₀ dst : List ℕ) (to : ℕ) (src : List ℕ) (from j : ℕ) → to + j < length dst → from + j < length src
+    → take (to + j) dst ≡ take to dst₀ ++ take j (drop from src) → take (to + (j + 1)) (set dst (to + j) (getD src (from + j) 0)) ≡ take to dst₀ ++ take (j + 1) (drop from src)
+copy-more dst₀ dst to src from j h k e =
+    let x : ℕ = getD src (from + j) 0 in
+    let a : to + (j + 1) ≡ to + j + 1 = omega arith in
+    let q : take (suc j) (drop from src) ≡ take j (drop from src) ++ x ∷ [] =
+    take-suc (drop from src) j 0 (rw length-drop (omega arith)) ∙ ap (λ y. take j (drop from src) ++ y ∷ []) (getD-drop from src j 0) in
+    rw (a, add-one j, q) (put-behind dst (to + j) x (take to dst₀ ++ take j (drop from src)) h e ∙ append-assoc (take to dst₀) (take j (drop from src)) (x ∷ []))
+
+-- a word stored before what stays
+pub same-more : (a : ℕ) (s₀ s : List ℕ) (at x : ℕ) → at < a → SameFrom a s₀ s → SameFrom a s₀ (set s at x)
+same-more a s₀ s at x h f i l = getD-set-other s at i x 0 (λ e. omega arith) ∙ f i l
+
+-- ---- two and four words
+
+pub put-two : (s : List ℕ) (at a b : ℕ) → at + 1 < length s → take (at + 2) (set (set s at a) (at + 1) b) ≡ take at s ++ a ∷ b ∷ []
+put-two s at a b h =
+    let e : at + 2 ≡ at + 1 + 1 = omega arith in
+    rw e (put-behind (set s at a) (at + 1) b (take at s ++ a ∷ []) (rw length-set h) (put-behind s at a (take at s) (omega arith) refl)
+    ∙ append-assoc (take at s) (a ∷ []) (b ∷ []))
+
+pub put-four : (s : List ℕ) (at a b c d : ℕ) → at + 3 < length s
+    → take (at + 4) (set (set (set (set s at a) (at + 1) b) (at + 2) c) (at + 3) d) ≡ take at s ++ a ∷ b ∷ c ∷ d ∷ []
+put-four s at a b c d h =
+    let s₂ = set (set s at a) (at + 1) b in
+    let l : length s₂ ≡ length s = length-set (set s at a) (at + 1) b ∙ length-set s at a in
+    let x : at + 2 + 1 ≡ at + 3 = omega arith in
+    let y : at + 2 + 2 ≡ at + 4 = omega arith in
+    let p = put-two s₂ (at + 2) c d (omega (arith, l)) in
+    rw (x, y) at p ∙ ap (λ m. m ++ c ∷ d ∷ []) (put-two s at a b (omega arith)) ∙ append-assoc (take at s) (a ∷ b ∷ []) (c ∷ d ∷ [])
+
+-- ---- numbers, one behind the other
+
+module _ (f : ℕ → ℕ) where
+  pub fill-none : (s : List ℕ) (to : ℕ) → take (to + 0) s ≡ take to s ++ tabulate f 0
+  unfolding tabulate
+  fill-none s to = let e : to + 0 ≡ to = omega arith in rw (e, append-nil)
+
+  pub fill-more : (s₀ s : List ℕ) (to j : ℕ) → to + j < length s → take (to + j) s ≡ take to s₀ ++ tabulate f j → take (to + (j + 1)) (set s (to + j) (f j)) ≡ take to s₀ ++ tabulate f (j + 1)
+  fill-more s₀ s to j h e =
+      let a : to + (j + 1) ≡ to + j + 1 = omega arith in
+      rw (a, listed-more f j) (put-behind s (to + j) (f j) (take to s₀ ++ tabulate f j) h e ∙ append-assoc (take to s₀) (tabulate f j) (f j ∷ []))
+
+-- ---- entries, one behind the other
+
+module _ (f : ℕ → List ℕ) (w : ℕ) (rs : List ℕ) where
+  pub lay-none : (s : List ℕ) → take (w * 0) s ≡ flat (map f (take 0 rs))
+  unfolding flat
+  lay-none s = rw mul-zero
+
+  pub lay-more : (s s′ : List ℕ) (t : ℕ) → t < length rs → take (w * t) s ≡ flat (map f (take t rs)) → take (w * t + w) s′ ≡ take (w * t) s ++ f (getD rs t 0)
+      → take (w * (t + 1)) s′ ≡ flat (map f (take (t + 1) rs))
+  lay-more s s′ t h e g =
+      let r = getD rs t 0 in
+      rw (add-one t, mul-suc w t, take-suc rs t 0 h, map-append f (take t rs) (r ∷ []), flat-append (map f (take t rs)) (f r ∷ []), flat-one (f r)) (g ∙ ap (λ l. l ++ f r) e)
+
+-- the words of m entries, and the ranks in the last of them
+pub words-of : (w m : ℕ) → 1 ≤ w → w * m ≡ (w - 1) * m + m
+words-of w m h = let e : w ≡ suc (w - 1) = omega arith in ap (λ k. k * m) e ∙ suc-mul (w - 1) m
+
+-- entry t ends before the rank behind its own, where the ranks end with entry m
+pub entry-ends : (w m t : ℕ) → 1 ≤ w → t < m → w * t + w ≤ (w - 1) * m + (t + 1)
+entry-ends w m t h l =
+    omega (arith, words-of w (suc t) h, mul-suc w t, mul-le-mul-left (w - 1) l)
+
+-- ---- zeros
+
+pub cleared-end : (s : List ℕ) (a : ℕ) → cleared s a (length s) ≡ take a s ++ replicate (length s - a) 0
+unfolding cleared
+cleared-end s a = rw (drop-length s, append-nil)
+
+-- ---- first hashes
+
+pub starts-more : (starts lengths : List ℕ) (i total : ℕ) → i < length starts → total ≡ sum (take i lengths) → StartsTo starts lengths i → StartsTo (set starts i total) lengths (i + 1)
+starts-more starts lengths i total h e s k l = go (Rattle.lists.proofs.Tests.le-or-lt i k)
+  where
+    go : (i ≤ k) ⊎ (k < i) → getD (set starts i total) k 0 ≡ sum (take k lengths)
+    go (inl a) = let q : k ≡ i = omega arith in rw q (getD-set-same starts i total 0 h ∙ e)
+    go (inr b) = getD-set-other starts i k total 0 (λ q. omega arith) ∙ s k b
+
+-- ---- one entry
+
+pub entry-done : (p p′ : List ℕ) (w to key id : ℕ) (rest : List ℕ) → 2 ≤ w → to + w ≤ length p
+    → take (to + 2 + (w - 2)) p′ ≡ take (to + 2) (set (set p to key) (to + 1) id) ++ rest → take (to + w) p′ ≡ take to p ++ key ∷ id ∷ rest
+entry-done p p′ w to key id rest h l e =
+    let a : to + 2 + (w - 2) ≡ to + w = omega arith in
+    rw a at e ∙ ap (λ m. m ++ rest) (put-two p to key id (omega arith)) ∙ append-assoc (take to p) (key ∷ id ∷ []) rest
+
+pub entry-same : (p p′ : List ℕ) (w to key id : ℕ) → 2 ≤ w → SameFrom (to + 2 + (w - 2)) (set (set p to key) (to + 1) id) p′ → SameFrom (to + w) p p′
+entry-same p p′ w to key id h f i l =
+    f i (omega arith) ∙ getD-set-other (set p to key) (to + 1) i id 0 (λ e. omega arith) ∙ getD-set-other p to i key 0 (λ e. omega arith)
+
+-- ---- rows, one behind the other
+
+module _ (f : ℕ → List ℕ) where
+  pub rows-none : (s : List ℕ) → take (4 + 4 * 0) s ≡ take 4 s ++ flat (tabulate f 0)
+  unfolding tabulate flat
+  rows-none s = rw append-nil
+
+  pub rows-more : (s₀ s s′ : List ℕ) (i : ℕ) → take (4 + 4 * i) s ≡ take 4 s₀ ++ flat (tabulate f i) → take (4 + 4 * i + 4) s′ ≡ take (4 + 4 * i) s ++ f i
+      → take (4 + 4 * (i + 1)) s′ ≡ take 4 s₀ ++ flat (tabulate f (i + 1))
+  rows-more s₀ s s′ i e g =
+      let a : 4 + 4 * (i + 1) ≡ 4 + 4 * i + 4 = omega arith in
+      rw (a, listed-more f i, flat-append (tabulate f i) (f i ∷ []), flat-one (f i))
+      (g ∙ ap (λ l. l ++ f i) e ∙ append-assoc (take 4 s₀) (flat (tabulate f i)) (f i))

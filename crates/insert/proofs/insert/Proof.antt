@@ -1,0 +1,168 @@
+-- `insert::insert` meets its contract. Assumes nothing.
+use mathlib.Core.Path.{_≡_, sym, ap, _∙_}
+use mathlib.Core.Bool.{true}
+use Prim.Native.Nat.{_≤_}
+use native.Mathlib.Omega.{arith}
+use Rattle.model.specs.Calls.{Answer, refused}
+use Rattle.model.specs.Words.{Words, slicesListed}
+use Rattle.model.specs.Soundness.{soundWords}
+use Rattle.soundness.specs.Scan.{words, refusalOf}
+use Rattle.soundness.proofs.Refusal.{accepted}
+use Rattle.insert.proofs.Admission.{full-is, rooms}
+use Rattle.insert.proofs.Refusals.{refused-early, refused-3, refused-5}
+use borrow.Author.Needs.{needs}
+use Rattle.insert.proofs.insert.Statement.{statement}
+use Rattle.insert.proofs.insert.Tie as tie
+
+-- once the store is looked at
+module _ (d : tie.After-refusal-of) where
+  abbrev s : tie.Start
+  s = d .before .before .before .before .before .before .before .before
+
+  abbrev m : Words
+  m = words (s .args .refs .now) (s .args .posts .now) (s .args .stops .now)
+
+  w2 : 2 ≤ s .args .w
+  w2 = omega (arith, s .pre .0)
+
+-- where it is not refused
+module _ (c : tie.Else1) where
+  abbrev d : tie.After-refusal-of
+  d = c .before
+
+  none-applies : refusalOf (s d .args .w) (m d) ≡ 0
+  none-applies = sym (d .refusal-of .ensures) ∙ c .if1 .left
+
+  sound : (slicesListed (s d .args .w) (m d) ≡ true) × (soundWords (s d .args .w) (m d) ≡ true)
+  sound = accepted (s d .args .w) (m d) none-applies
+
+refusal-of-requires : tie.Need-refusal-of-requires
+refusal-of-requires c κs = search needs
+
+same-length : tie.Need-same-length
+same-length c = search needs
+
+same-length-2 : tie.Need-same-length-2
+same-length-2 c = search needs
+
+same-length-3 : tie.Need-same-length-3
+same-length-3 c = search needs
+
+returns : tie.Need-returns
+returns c =
+    let r = c .before in
+    let q = r .refusal-of .ensures in
+    let e = refused-early (s r .args .w) (m r) (s r .args .limit) (s r .args .rate) (s r .args .hashes .now) (w2 r) (λ z. c .if1 .taken (q ∙ z)) in (
+      ap refused q ∙ sym (ap (λ (o : Answer × Words). o .0) e),
+      (
+        sym (ap (λ (o : Answer × Words). o .1 .references) e),
+        (sym (ap (λ (o : Answer × Words). o .1 .postings) e), sym (ap (λ (o : Answer × Words). o .1 .stopped) e)),
+      ),
+    )
+
+is-malformed-requires : tie.Need-is-malformed-requires
+is-malformed-requires c κs = search needs
+
+same-length-4 : tie.Need-same-length-4
+same-length-4 c = search needs
+
+same-length-5 : tie.Need-same-length-5
+same-length-5 c = search needs
+
+same-length-6 : tie.Need-same-length-6
+same-length-6 c = search needs
+
+returns-2 : tie.Need-returns-2
+returns-2 c =
+    let g = c .before .before in
+    let r = d g in
+    let e = refused-3 (s r .args .w) (m r) (s r .args .limit) (s r .args .rate) (s r .args .hashes .now) (w2 r) (sound g .0) (sound g .1) (sym (c .before .is-malformed .ensures) ∙ c .if2 .taken) in (
+      sym (ap (λ (o : Answer × Words). o .0) e),
+      (
+        sym (ap (λ (o : Answer × Words). o .1 .references) e),
+        (sym (ap (λ (o : Answer × Words). o .1 .postings) e), sym (ap (λ (o : Answer × Words). o .1 .stopped) e)),
+      ),
+    )
+
+is-full-requires : tie.Need-is-full-requires
+is-full-requires c κs =
+    let g = c .before .before .before in
+    let r = d g in
+    omega (arith, rooms (s r .args .w) (m r) (w2 r) (sound g .0) (sound g .1) .references)
+
+same-length-7 : tie.Need-same-length-7
+same-length-7 c = search needs
+
+same-length-8 : tie.Need-same-length-8
+same-length-8 c = search needs
+
+same-length-9 : tie.Need-same-length-9
+same-length-9 c = search needs
+
+returns-3 : tie.Need-returns-3
+returns-3 c =
+    let mal = c .before .before .before .before in
+    let g = mal .before in
+    let r = d g in
+    let e = refused-5 (s r .args .w) (m r) (s r .args .limit) (s r .args .rate) (s r .args .hashes .now) (w2 r) (sound g .0) (sound g .1)
+    (sym (mal .is-malformed .ensures) ∙ c .before .before .before .if2 .left)
+    (full-is (s r .args .w) (m r) (w2 r) (sound g .0) (sound g .1) ∙ sym (c .before .is-full .ensures) ∙ c .if3 .taken) in (
+      sym (ap (λ (o : Answer × Words). o .0) e),
+      (
+        sym (ap (λ (o : Answer × Words). o .1 .references) e),
+        (sym (ap (λ (o : Answer × Words). o .1 .postings) e), sym (ap (λ (o : Answer × Words). o .1 .stopped) e)),
+      ),
+    )
+
+admit-requires : tie.Need-admit-requires
+admit-requires c κs =
+    let el = c .before .before .before in
+    let fu = el .before in
+    let mal = fu .before .before .before in
+    let g = mal .before in
+    let r = d g in
+    record {
+      wide = s r .pre .0;
+      narrow = s r .pre .1;
+      is-listed = sound g .0;
+      is-sound = sound g .1;
+      formed = sym (mal .is-malformed .ensures) ∙ fu .before .before .if2 .left;
+      row-left = sym (fu .is-full .ensures) ∙ el .if3 .left;
+    }
+
+same-length-10 : tie.Need-same-length-10
+same-length-10 c = search needs
+
+same-length-11 : tie.Need-same-length-11
+same-length-11 c = search needs
+
+same-length-12 : tie.Need-same-length-12
+same-length-12 c = search needs
+
+returns-4 : tie.Need-returns-4
+returns-4 c = search needs
+
+pub insert-spec : {M : Type 1} → statement M
+insert-spec =
+    tie.close
+    (tie.spec
+    refusal-of-requires
+    same-length
+    same-length-2
+    same-length-3
+    returns
+    is-malformed-requires
+    same-length-4
+    same-length-5
+    same-length-6
+    returns-2
+    is-full-requires
+    same-length-7
+    same-length-8
+    same-length-9
+    returns-3
+    admit-requires
+    same-length-10
+    same-length-11
+    same-length-12
+    returns-4)

@@ -1,0 +1,110 @@
+-- `insert::write_recording` meets its contract. Assumes nothing.
+use mathlib.Core.Path.{_≡_, ap, _∙_}
+use Prim.Native.Nat.{ℕ, _+_}
+use native.Mathlib.Omega.{arith}
+use lib.ListN.{length, getD, take}
+use Rattle.lists.specs.Lists.{flat}
+use Rattle.lists.specs.Keys.{placeAll}
+use Rattle.lists.specs.Entries.{padded}
+use Rattle.insert.specs.Writing.{idIn}
+use Rattle.insert.proofs.Wrote.{id-from, recorded-all, placing-from, stopping-from, placed-from, recording-from, id-small}
+use borrow.Author.Needs.{needs}
+use Rattle.insert.proofs.write_recording.Statement.{statement}
+use Rattle.insert.proofs.write_recording.Tie as tie
+
+-- once the id is found
+module _ (d : tie.After-new-id) where
+  abbrev s : tie.Start
+  s = d .before .before .before .before .before .before .before .before .before
+
+  abbrev head : tie.After-header
+  head = d .before .before
+
+  id-is : d .new-id .result ≡ idIn (s .args .refs .now)
+  id-is = id-from (s .args .refs .now) (head .header .result) (d .new-id .result) (head .header .ensures) (d .new-id .ensures)
+
+header-requires : tie.Need-header-requires
+header-requires c κs = search needs
+
+new-id-requires : tie.Need-new-id-requires
+new-id-requires c κs = search needs
+
+cast-place-news : tie.Need-cast-place-news
+cast-place-news c = let d = c .before in omega (arith, id-small (s d .args .w) (s d .args .refs .now) (s d .args .posts .now) (s d .args .stops .now) (s d .args .hashes .now) (s d .args .order .now) (s d .args .m) (s d .args .overs .now) (s d .args .n) (s d .pre) (head d .header .result) (head d .header .ensures) (d .new-id .result) (id-is d))
+
+place-news-requires : tie.Need-place-news-requires
+place-news-requires c κs = let d = c .before in placing-from (s d .args .w) (s d .args .refs .now) (s d .args .posts .now) (s d .args .stops .now) (s d .args .hashes .now) (s d .args .order .now) (s d .args .m) (s d .args .overs .now) (s d .args .n) (s d .pre) (head d .header .result) (head d .header .ensures)
+
+stop-keys-requires : tie.Need-stop-keys-requires
+stop-keys-requires c κs = let d = c .before .before .before .before .before in stopping-from (s d .args .w) (s d .args .refs .now) (s d .args .posts .now) (s d .args .stops .now) (s d .args .hashes .now) (s d .args .order .now) (s d .args .m) (s d .args .overs .now) (s d .args .n) (s d .pre) (head d .header .result) (head d .header .ensures)
+
+canonical-rate-requires : tie.Need-canonical-rate-requires
+canonical-rate-requires c κs = search needs
+
+row-max-requires : tie.Need-row-max-requires
+row-max-requires c κs = search needs
+
+add-put-recording : tie.Need-add-put-recording
+add-put-recording c = search needs
+
+put-recording-requires : tie.Need-put-recording-requires
+put-recording-requires c κs =
+    let e = c .before .before .before .before .before .before .before .before .before in
+    let d = e .before .before in
+    recording-from (s d .args .w) (s d .args .refs .now) (s d .args .posts .now) (s d .args .stops .now) (s d .args .hashes .now) (s d .args .order .now) (s d .args .m) (s d .args .overs .now) (s d .args .n) (s d .pre) (head d .header .result) (head d .header .ensures) (d .new-id .result) (e .place-news .result) (id-is d) (e .place-news .ensures .0)
+
+cast-result : tie.Need-cast-result
+cast-result c =
+    let e = c .before .before .before .before .before .before .before .before .before .before .before .before in
+    let d = e .before .before in
+    omega (arith, id-small (s d .args .w) (s d .args .refs .now) (s d .args .posts .now) (s d .args .stops .now) (s d .args .hashes .now) (s d .args .order .now) (s d .args .m) (s d .args .overs .now) (s d .args .n) (s d .pre) (head d .header .result) (head d .header .ensures) (d .new-id .result) (id-is d))
+
+same-length : tie.Need-same-length
+same-length c = search needs
+
+same-length-2 : tie.Need-same-length-2
+same-length-2 c = search needs
+
+same-length-3 : tie.Need-same-length-3
+same-length-3 c = search needs
+
+returns : tie.Need-returns
+returns c =
+    let put = c .before .before in
+    let top = put .before in
+    let rate = top .before in
+    let stop = rate .before .before .before .before in
+    let e = stop .before .before .before .before in
+    let d = e .before .before in
+    let placed = placed-from (s d .args .w) (s d .args .refs .now) (s d .args .posts .now) (s d .args .stops .now) (s d .args .hashes .now) (s d .args .order .now) (s d .args .m) (s d .args .overs .now) (s d .args .n) (s d .pre) (head d .header .result) (head d .header .ensures) (d .new-id .result) (id-is d) in (
+      id-is d,
+      (
+        put .put-recording .ensures ∙ recorded-all (s d .args .refs .now) (head d .header .result .rows) (getD (s d .args .refs .now) 0 0) (head d .header .result .vacant) (getD (s d .args .refs .now) 1 0)
+            (d .new-id .result) (idIn (s d .args .refs .now)) _ _ _ _ (e .place-news .result) _ (head d .header .result .stopped + s d .args .n) (getD (s d .args .refs .now) 3 0 + s d .args .n)
+            (head d .header .ensures .rows) (head d .header .ensures .vacant) (id-is d) (rate .canonical-rate .ensures) (top .row-max .ensures)
+            (e .place-news .ensures .0 ∙ ap length placed) (ap (λ (k : ℕ). k + s d .args .n) (head d .header .ensures .stopped)),
+        (
+          e .place-news .ensures .1 ∙ ap (λ es. padded (length (s d .args .posts .now)) (flat es)) placed,
+          stop .stop-keys .ensures ∙ ap (λ (k : ℕ). padded (length (s d .args .stops .now)) (placeAll (λ x. x) (take (s d .args .n) (s d .args .overs .now)) (take k (s d .args .stops .now)))) (head d .header .ensures .stopped),
+        ),
+      ),
+    )
+
+pub write-recording-spec : {M : Type 1} → statement M
+write-recording-spec =
+    tie.close
+    (tie.spec
+    header-requires
+    new-id-requires
+    cast-place-news
+    place-news-requires
+    stop-keys-requires
+    canonical-rate-requires
+    row-max-requires
+    add-put-recording
+    put-recording-requires
+    cast-result
+    same-length
+    same-length-2
+    same-length-3
+    returns)

@@ -1,0 +1,207 @@
+// The insertion of a recording into a lent store.
+ghost use mathlib.Core.Path.{_≡_};
+ghost use mathlib.Core.Bool.{cond};
+ghost use Prim.Native.Nat.{_+_, _*_, _-_, _≤_};
+ghost use lib.Dec.{eqb};
+ghost use lib.ListN.{length, getD, take};
+ghost use Rattle.lists.specs.Lists.{flat};
+ghost use Rattle.lists.specs.Keys.{placeAll};
+ghost use Rattle.lists.specs.Entries.{padded};
+ghost use Rattle.model.specs.Fingerprints.{hashesOf};
+ghost use Rattle.model.specs.Rows.{hasRmax, largestAnchor, canonical};
+ghost use Rattle.model.specs.Soundness.{rowWord};
+ghost use Rattle.model.specs.Run.{runInsert};
+ghost use Rattle.insert_merge.specs.Order.{placesIn};
+ghost use Rattle.soundness.specs.Scan.{words};
+ghost use Rattle.insert.specs.Writing.{Placing, placedEntries, Stopping, recorded, Recording, idIn, postingsIn, Writable};
+ghost use Rattle.insert.specs.Insert.{insertionAnswer, Ready, noRow};
+use rows::size;
+
+// "stored with an id", or "refused with a number".
+pub enum Insertion {
+    Refused(u32),
+    Stored(u32),
+}
+
+// The first p entries, less those of the first n keys of overs, with the hashes at the places in order placed among them, less those of
+// such keys, as entries of recording id; how many there are.
+fn place_news(
+    posts: &mut [u32],
+    w: usize,
+    p: usize,
+    hashes: &[u32],
+    id: u32,
+    order: &[i64],
+    m: usize,
+    overs: &[u32],
+    n: usize,
+) -> usize
+    requires { ⌜ Placing w p (now posts) (now hashes) (now order) m (now overs) n ⌝ }
+    ensures { λ r. ⌜ r ≡ length (placedEntries w p (now (posts .entry)) (now (hashes .entry)) id (placesIn m (now (order .entry))) (take n (now (overs .entry)))) ⌝ }
+    ensures { λ _. ⌜ now (posts .exit) ≡ padded (length (now (posts .entry)))
+        (flat (placedEntries w p (now (posts .entry)) (now (hashes .entry)) id (placesIn m (now (order .entry))) (take n (now (overs .entry))))) ⌝ }
+{
+    let mut news = [0u32; 40960];
+    let r = insert_merge::write_news(&mut news, order, m, hashes, w - 1, id, overs, n);
+    let q = postings::retain(posts, w, p, 0, overs, n);
+    insert_merge::merge_in(posts, w, q, &news, r);
+    q + r
+}
+
+// The first n keys of overs are placed among the first k of stops.
+fn stop_keys(stops: &mut [u32], k: usize, overs: &[u32], n: usize)
+    requires { ⌜ Stopping (now stops) k (now overs) n ⌝ }
+    ensures { λ _. ⌜ now (stops .exit) ≡ padded (length (now (stops .entry))) (placeAll (λ x. x) (take n (now (overs .entry))) (take k (now (stops .entry)))) ⌝ }
+{
+    insert_merge::merge_in(stops, 1, k, overs, n);
+}
+
+// The id of a new recording, where n rows and v vacant entries are in use.
+fn new_id(refs: &[u32], n: usize, v: usize) -> usize
+    requires { ⌜ (v ≤ n) × (4 + 4 * n ≤ length (now refs)) ⌝ }
+    ensures { λ r. ⌜ r ≡ cond (eqb v 0) n (rowWord (now (refs .entry)) (v - 1) 3) ⌝ }
+{
+    if v == 0 {
+        return n;
+    }
+    size(rows::row_word(refs, v - 1, 3))
+}
+
+// Recording id is written into the references, where n rows and v vacant entries are in use; p postings and k stopped keys are left.
+fn put_recording(
+    refs: &mut [u32],
+    n: usize,
+    v: usize,
+    id: usize,
+    rate: u32,
+    rmax: u32,
+    p: usize,
+    k: usize,
+)
+    requires { ⌜ Recording (now refs) n v id p k ⌝ }
+    ensures { λ _. ⌜ now (refs .exit) ≡ recorded (now (refs .entry)) n v id rate rmax p k ⌝ }
+{
+    if v == 0 {
+        rows::put_row(refs, id, rate, rmax, 1);
+        rows::put_header(refs, (n + 1) as u32, 0, p as u32, k as u32);
+    } else {
+        rows::put_entry(refs, v - 1, 0);
+        rows::put_row(refs, id, rate, rmax, 1);
+        rows::put_header(refs, n as u32, (v - 1) as u32, p as u32, k as u32);
+    }
+}
+
+// Writes a recording that is accepted; its id.
+fn write_recording(
+    refs: &mut [u32],
+    posts: &mut [u32],
+    stops: &mut [u32],
+    hashes: &[u32],
+    w: usize,
+    rate: u32,
+    order: &[i64],
+    m: usize,
+    overs: &[u32],
+    n: usize,
+) -> u32
+    requires { ⌜ Writable w (now refs) (now posts) (now stops) (now hashes) (now order) m (now overs) n ⌝ }
+    ensures { λ r. ⌜ r ≡ idIn (now (refs .entry)) ⌝ }
+    ensures { λ _. ⌜ now (refs .exit) ≡ recorded (now (refs .entry)) (getD (now (refs .entry)) 0 0) (getD (now (refs .entry)) 1 0) (idIn (now (refs .entry))) (canonical rate)
+        (cond (hasRmax w) (largestAnchor (hashesOf w (now (hashes .entry)))) 0)
+        (length (postingsIn w (now (refs .entry)) (now (posts .entry)) (now (hashes .entry)) (now (order .entry)) m (now (overs .entry)) n)) (getD (now (refs .entry)) 3 0 + n) ⌝ }
+    ensures { λ _. ⌜ now (posts .exit) ≡ padded (length (now (posts .entry)))
+        (flat (postingsIn w (now (refs .entry)) (now (posts .entry)) (now (hashes .entry)) (now (order .entry)) m (now (overs .entry)) n)) ⌝ }
+    ensures { λ _. ⌜ now (stops .exit) ≡ padded (length (now (stops .entry))) (placeAll (λ x. x) (take n (now (overs .entry))) (take (getD (now (refs .entry)) 3 0) (now (stops .entry)))) ⌝ }
+{
+    let h = rows::header(refs);
+    let k = h.stopped;
+    let id = new_id(refs, h.rows, h.vacant);
+    let q = place_news(posts, w, h.postings, hashes, id as u32, order, m, overs, n);
+    stop_keys(stops, k, overs, n);
+    put_recording(
+        refs,
+        h.rows,
+        h.vacant,
+        id,
+        rows::canonical_rate(rate),
+        rows::row_max(hashes, w),
+        q,
+        k + n,
+    );
+    id as u32
+}
+
+// Whether there is neither a vacant id nor a row that is not in use.
+fn is_full(refs: &[u32]) -> bool
+    requires { ⌜ 4 ≤ length (now refs) ⌝ }
+    ensures { λ r. ⌜ r ≡ noRow (now (refs .entry)) ⌝ }
+{
+    let h = rows::header(refs);
+    if h.vacant != 0 {
+        return false;
+    }
+    h.rows == (refs.len() - 4) / 4
+}
+
+// An insertion into a sound store that has a row left, of a fingerprint that is well formed.
+fn admit(
+    refs: &mut [u32],
+    posts: &mut [u32],
+    stops: &mut [u32],
+    hashes: &[u32],
+    w: usize,
+    rate: u32,
+    limit: u32,
+) -> Insertion
+    requires { ⌜ Ready w (words (now refs) (now posts) (now stops)) (now hashes) ⌝ }
+    ensures { λ r. ⌜ insertionAnswer r ≡ runInsert w (words (now (refs .entry)) (now (posts .entry)) (now (stops .entry))) limit rate (now (hashes .entry)) .0 ⌝ }
+    ensures { λ _. ⌜ now (refs .exit) ≡ runInsert w (words (now (refs .entry)) (now (posts .entry)) (now (stops .entry))) limit rate (now (hashes .entry)) .1 .references ⌝ }
+    ensures { λ _. ⌜ now (posts .exit) ≡ runInsert w (words (now (refs .entry)) (now (posts .entry)) (now (stops .entry))) limit rate (now (hashes .entry)) .1 .postings ⌝ }
+    ensures { λ _. ⌜ now (stops .exit) ≡ runInsert w (words (now (refs .entry)) (now (posts .entry)) (now (stops .entry))) limit rate (now (hashes .entry)) .1 .stopped ⌝ }
+{
+    let h = rows::header(refs);
+    let p = h.postings;
+    let k = h.stopped;
+    let v = w - 1;
+    let mut order = [0i64; 16384];
+    let m = insert_merge::collect(&mut order, hashes, v, hashes.len() / v, stops, k);
+    if posts.len() / w < p + m {
+        return Insertion::Refused(6);
+    }
+    sorting::sort_words(&mut order, m);
+    let mut overs = [0u32; 8192];
+    let n = insert_merge::over_keys(&mut overs, &order, m, posts, w, p, limit);
+    if stops.len() < k + n {
+        return Insertion::Refused(7);
+    }
+    Insertion::Stored(write_recording(refs, posts, stops, hashes, w, rate, &order, m, &overs, n))
+}
+
+// Inserts a recording with the hashes of a fingerprint, w - 1 words each. A key that then has more postings than the limit is stopped.
+pub fn insert(
+    refs: &mut [u32],
+    posts: &mut [u32],
+    stops: &mut [u32],
+    hashes: &[u32],
+    w: usize,
+    rate: u32,
+    limit: u32,
+) -> Insertion
+    requires { ⌜ (3 ≤ w) × (w ≤ 5) ⌝ }
+    ensures { λ r. ⌜ insertionAnswer r ≡ runInsert w (words (now (refs .entry)) (now (posts .entry)) (now (stops .entry))) limit rate (now (hashes .entry)) .0 ⌝ }
+    ensures { λ _. ⌜ now (refs .exit) ≡ runInsert w (words (now (refs .entry)) (now (posts .entry)) (now (stops .entry))) limit rate (now (hashes .entry)) .1 .references ⌝ }
+    ensures { λ _. ⌜ now (posts .exit) ≡ runInsert w (words (now (refs .entry)) (now (posts .entry)) (now (stops .entry))) limit rate (now (hashes .entry)) .1 .postings ⌝ }
+    ensures { λ _. ⌜ now (stops .exit) ≡ runInsert w (words (now (refs .entry)) (now (posts .entry)) (now (stops .entry))) limit rate (now (hashes .entry)) .1 .stopped ⌝ }
+{
+    let n = soundness::refusal_of(refs, posts, stops, w);
+    if n != 0 {
+        return Insertion::Refused(n);
+    }
+    if rows::is_malformed(hashes, w, 8192) {
+        return Insertion::Refused(3);
+    }
+    if is_full(refs) {
+        return Insertion::Refused(5);
+    }
+    admit(refs, posts, stops, hashes, w, rate, limit)
+}

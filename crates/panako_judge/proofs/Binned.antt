@@ -1,0 +1,72 @@
+-- The occupied bins are such as the Hough walk takes. Assumes nothing.
+use mathlib.Core.Path.{_≡_, ap, _∙_}
+use mathlib.Core.Bool.{true, _||_, _&&_}
+use mathlib.Core.List.{List}
+use Prim.Native.Nat.{ℕ, _+_, _*_, _/_, _%_, _^_, _≤_, _<_}
+use native.Mathlib.Omega.{arith}
+use native.Mathlib.Decide.{decLt}
+use lib.IntN.{ℤ, pos, negℤ, natAbs}
+use lib.ListN.{length, getD}
+use lib.Signed.{ltZ}
+use lib.Dec.{T, eqb, ltb}
+use borrow.Author.Tests.{eq-eqb, lt-ltb, le-ltb, lt-leb}
+use Rattle.lists.specs.Lists.{All}
+use Rattle.lists.proofs.Keep.{all-at}
+use Rattle.maps.proofs.Sums.{sum-cong}
+use Rattle.consolidate.proofs.Signed.{sub-dist}
+use Rattle.consolidate.proofs.Spans.{le-shift}
+use Rattle.hough.specs.Hough.{scale, votes}
+use Rattle.hough.specs.Limits.{Bins}
+use Rattle.wang_judge.proofs.Peaks.{leZ-ltZ}
+use Rattle.panako_judge.specs.Judge.{middle, voteOfCode, panakoForm}
+use Rattle.bins.specs.Codes.{occupied, votesAt, binsOf}
+use Rattle.bins.proofs.Occupied.{length-counts, occupied-all, occupied-few, key, keys-up, keys-held, bins-length, bins-at}
+
+-- ---- the order of bins
+
+order : (j k : ℕ) → j < k → T (ltb (j / 2 ^ 40) (k / 2 ^ 40) || (eqb (j / 2 ^ 40) (k / 2 ^ 40) && ltZ (voteOfCode j .offset) (voteOfCode k .offset)))
+order j k h = go (decLt (j / 2 ^ 40) (k / 2 ^ 40))
+  where
+    go : Dec (j / 2 ^ 40 < k / 2 ^ 40) → T (ltb (j / 2 ^ 40) (k / 2 ^ 40) || (eqb (j / 2 ^ 40) (k / 2 ^ 40) && ltZ (voteOfCode j .offset) (voteOfCode k .offset)))
+    go (yes p) = rw (lt-ltb (j / 2 ^ 40) (k / 2 ^ 40) p) tt
+    go (no p) =
+        rw (le-ltb (j / 2 ^ 40) (k / 2 ^ 40) (omega arith), eq-eqb (j / 2 ^ 40) (k / 2 ^ 40) (omega arith))
+        (leZ-ltZ (voteOfCode j .offset) (voteOfCode k .offset) (le-shift (negℤ (pos middle)) (k % 2 ^ 40) (j % 2 ^ 40) ∙ lt-leb (k % 2 ^ 40) (j % 2 ^ 40) (omega arith)))
+
+offset-close : (k : ℕ) → natAbs (voteOfCode k .offset) ≤ 2 ^ 39
+offset-close k = omega (arith, sub-dist (k % 2 ^ 40) middle)
+
+-- ---- the bins of codes that have 52 bits
+
+module _ (ks : List ℕ) where
+  abbrev bins : List ℤ
+  bins = binsOf panakoForm middle ks
+
+  module _ (i : ℕ) (h : i < length (occupied ks)) where
+    scale-at : getD bins (3 * i) (pos 0) ≡ pos (key ks i / 2 ^ 40)
+    scale-at = let e : 3 * i ≡ 3 * i + 0 = omega arith in ap (λ (k : ℕ). getD bins k (pos 0)) e ∙ bins-at panakoForm middle ks i 0 h (omega arith)
+
+    offset-at : getD bins (3 * i + 1) (pos 0) ≡ voteOfCode (key ks i) .offset
+    offset-at = bins-at panakoForm middle ks i 1 h (omega arith)
+
+    count-at : getD bins (3 * i + 2) (pos 0) ≡ pos (votesAt ks (key ks i))
+    count-at = bins-at panakoForm middle ks i 2 h (omega arith)
+
+    scale-is : scale bins i ≡ key ks i / 2 ^ 40
+    scale-is = ap natAbs scale-at
+
+    votes-are : votes bins i ≡ votesAt ks (key ks i)
+    votes-are = ap natAbs count-at
+
+  pub bins-taken : All (λ k. k < 2 ^ 52) ks → length ks ≤ 1000000 → Bins bins (length (occupied ks))
+  bins-taken small few =
+      record {
+        few = omega (arith, occupied-few ks);
+        room = omega (arith, bins-length panakoForm middle ks);
+        scaled = λ i h. rw (scale-at i h) tt;
+        scales = λ i h. omega (arith, scale-is i h, all-at (λ k. k < 2 ^ 52) (occupied ks) 0 (occupied-all (λ k. k < 2 ^ 52) ks small) i h);
+        close = λ i h. rw (offset-at i h) (offset-close (key ks i));
+        counted = λ i h. rw (count-at i h) tt;
+        ascend = λ i h. rw (offset-at i (omega arith), offset-at (i + 1) h, scale-is i (omega arith), scale-is (i + 1) h) (order (key ks i) (key ks (i + 1)) (keys-up ks i (i + 1) (omega arith) h));
+        sum = omega (arith, sum-cong (votes bins) (λ i. votesAt ks (key ks i)) (length (occupied ks)) votes-are, keys-held ks (2 ^ 52) small (λ k. true), length-counts ks);
+      }

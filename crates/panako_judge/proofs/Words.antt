@@ -1,0 +1,105 @@
+-- The votes in the words of the scratch, and the part of it that holds their bins. Assumes nothing.
+use mathlib.Core.Path.{_≡_, refl, sym, ap, _∙_}
+use mathlib.Core.Bool.{true, cond}
+use mathlib.Core.List.{List, map}
+use Prim.Native.Nat.{ℕ, _+_, _-_, _*_, _^_, _≤_, _<_}
+use native.Mathlib.Omega.{arith}
+use lib.IntN.{ℤ}
+use lib.ListN.{length, take, drop, length-drop}
+use lib.Seq.{length-take-le}
+use lib.Ieee.{Float}
+use Rattle.lists.proofs.Tests.{test}
+use Rattle.lists.proofs.Keep.{all-of, map-map, map-same}
+use Rattle.maps.specs.Words.{SameOutside}
+use Rattle.maps.proofs.Words.{outside-none}
+use Rattle.bins.specs.Codes.{codeIn, codesIn, occupied, binsOf, stored}
+use Rattle.bins.proofs.Stored.{stored-length, stored-before, stored-outside, stored-read}
+use Rattle.bins.proofs.Occupied.{occupied-few, occupied-some, bins-length}
+use Rattle.bins.proofs.Binning.{codes-length, codes-each}
+use Rattle.few_bins.specs.Tally.{isFew, counted}
+use Rattle.hough.specs.Limits.{Bins}
+use Rattle.wang_judge.specs.declared.Verdict.{Verdict}
+use Rattle.wang_judge.proofs.Passing.{Weighed}
+use Rattle.panako_judge.specs.Judge as votes
+use Rattle.panako_judge.specs.Judge.{middle, codeOf, panakoForm, binCount, seenOf, thresholdsOf, atPeak, resultOf}
+use Rattle.panako_judge.specs.Candidates.{voteIn, votesIn, Binned}
+use Rattle.panako_judge.specs.declared.PanakoQuery.{PanakoQuery}
+use Rattle.panako_judge.proofs.Codes.{code-back}
+use Rattle.panako_judge.proofs.Binned.{bins-taken}
+
+module _ (s : List ℤ) (a g : ℕ) (fits : a + g ≤ length s) where
+  pub votes-length : length (votesIn s a g) ≡ g
+  votes-length = lib.ListN.length-map (take g (drop a s)) voteIn ∙ length-take-le g (drop a s) (omega (arith, length-drop a s))
+
+  -- their codes are those of the words
+  codes-are : map codeOf (votesIn s a g) ≡ codesIn panakoForm s a g
+  codes-are =
+      let l = take g (drop a s) in
+      map-map codeOf voteIn l ∙ map-same (λ z. codeOf (voteIn z)) (codeIn panakoForm) l (all-of (λ z. codeOf (voteIn z) ≡ codeIn panakoForm z) (λ z. code-back (codeIn panakoForm z)) l)
+
+  -- n bins of theirs, as words
+  module _ (n : ℕ) (l : List ℤ) (number : n ≡ binCount (votesIn s a g)) (words : l ≡ votes.houghBins (votesIn s a g)) where
+    pub bins-good : g ≤ 1000000 → Bins l n
+    bins-good few =
+        rw (words, number)
+        (bins-taken (map codeOf (votesIn s a g)) (rw codes-are (codes-each panakoForm s a g fits (λ k. k < 2 ^ 52) (λ t h. omega arith)))
+        (omega (arith, lib.ListN.length-map (votesIn s a g) codeOf, votes-length)))
+
+    pub bins-some : 0 < g → 0 < n
+    bins-some some = omega (arith, number, occupied-some (map codeOf (votesIn s a g)) (omega (arith, lib.ListN.length-map (votesIn s a g) codeOf, votes-length)))
+
+    -- what the gates say of them
+    pub weighed-bins : (q : PanakoQuery) (fps : Float) (v : Verdict)
+        → Weighed (thresholdsOf q) (atPeak (seenOf q l n)) (resultOf q fps (seenOf q l n)) v
+        → Weighed (thresholdsOf q) (atPeak (seenOf q (votes.houghBins (votesIn s a g)) (binCount (votesIn s a g)))) (resultOf q fps (seenOf q (votes.houghBins (votesIn s a g)) (binCount (votesIn s a g)))) v
+    weighed-bins q fps v w = rw (words, number) at w
+
+  -- from `at` on, where there is room, their n bins were stored
+  module _ (at n : ℕ) (l : List ℤ) (room : at + 3 * g ≤ length s) (number : n ≡ length (occupied (codesIn panakoForm s a g))) (written : l ≡ stored s at (binsOf panakoForm middle (codesIn panakoForm s a g))) where
+    pub bins-few : n ≤ g
+    bins-few = omega (arith, occupied-few (codesIn panakoForm s a g), codes-length panakoForm s a g fits)
+
+    pub bins-number : n ≡ binCount (votesIn s a g)
+    bins-number = number ∙ ap (λ (ks : List ℕ). length (occupied ks)) (sym codes-are)
+
+    pub bins-outside : SameOutside s l at (at + 3 * g)
+    bins-outside = rw written (stored-outside s s at (at + 3 * g) at (binsOf panakoForm middle (codesIn panakoForm s a g)) (outside-none s at (at + 3 * g)) (omega arith) (omega (arith, bins-length panakoForm middle (codesIn panakoForm s a g), bins-few)))
+
+    -- the part that is lent
+    part-words : take (at + 3 * n - at) (drop at l) ≡ binsOf panakoForm middle (codesIn panakoForm s a g)
+    part-words =
+        let bins = binsOf panakoForm middle (codesIn panakoForm s a g) in
+        let k = bins-length panakoForm middle (codesIn panakoForm s a g) in
+        let e : at + 3 * n - at ≡ length bins = omega (arith, k, number) in
+        rw (e, written) (stored-read s at bins (omega (arith, k, number, bins-few)))
+
+    pub part-is : take (at + 3 * n - at) (drop at l) ≡ votes.houghBins (votesIn s a g)
+    part-is = part-words ∙ ap (binsOf panakoForm middle) (sym codes-are)
+
+    -- behind the votes: they are as they were, and the bins stand there
+    pub few-binned : a ≡ 0 → g ≤ at → (take g l ≡ take g s) × Binned l g at n
+    few-binned e before =
+        let kept : take g l ≡ take g s = rw written (stored-before s at (binsOf panakoForm middle (codesIn panakoForm s a g)) g before) in
+        let same : votesIn l 0 g ≡ votesIn s a g = rw e (ap (map voteIn) kept) in (
+          kept,
+          record {
+            before = before;
+            room = omega (arith, bins-few, ap length written, stored-length s at (binsOf panakoForm middle (codesIn panakoForm s a g)));
+            number = bins-number ∙ ap binCount (sym same);
+            bins = part-is ∙ ap votes.houghBins (sym same);
+          },
+        )
+
+-- what `count_few` says of the first g votes, whether it counted them or not
+module _ (s l : List ℤ) (g at n : ℕ) (before : g ≤ at) (room : at + 3 * g ≤ length s) (told : n ≡ counted (length (occupied (codesIn panakoForm s 0 g))))
+    (left : l ≡ cond (isFew (length (occupied (codesIn panakoForm s 0 g)))) (stored s at (binsOf panakoForm middle (codesIn panakoForm s 0 g))) s) where
+  binned : isFew (length (occupied (codesIn panakoForm s 0 g))) ≡ true → (take g l ≡ take g s) × Binned l g at n
+  binned t = few-binned s 0 g (omega arith) at n l room (rw t at told) (rw t at left) refl before
+
+  pub few-number : n ≡ counted (binCount (votesIn s 0 g))
+  few-number = told ∙ ap (λ (ks : List ℕ). counted (length (occupied ks))) (sym (codes-are s 0 g (omega arith)))
+
+  pub few-counted : (0 < n → Binned l g at n) × (take g l ≡ take g s)
+  few-counted = test (isFew (length (occupied (codesIn panakoForm s 0 g))))
+      (λ t. (λ h. binned t .1, binned t .0))
+      (λ f. let z : n ≡ 0 = told ∙ rw f refl in let e : l ≡ s = rw f at left in (λ h. absurd (omega arith), ap (take g) e))

@@ -1,0 +1,101 @@
+-- `panako_judge::judge_binned` meets its contract. Assumes nothing.
+use mathlib.Core.Path.{_≡_, sym, ap, _∙_}
+use mathlib.Core.List.{List}
+use Prim.Native.Nat.{ℕ, _+_, _≤_}
+use native.Mathlib.Omega.{arith}
+use lib.ListN.{length}
+use borrow.Author.Tests.{not-true, not-false}
+use Rattle.wang_judge.specs.Gates.{admits}
+use Rattle.wang_judge.specs.declared.Verdict.the-variants.{Barred}
+use Rattle.wang_judge.proofs.Passing.{bar-entry, goes-on}
+use Rattle.panako_judge.specs.Judge.{Vote, thresholdsOf, atPeak, resultOf}
+use Rattle.panako_judge.specs.Candidates.{votesIn}
+use Rattle.panako_judge.proofs.Words.{votes-length, bins-good, bins-some, weighed-bins}
+use Rattle.panako_judge.proofs.Gates.{seen, judged-by}
+use borrow.Author.Needs.{needs}
+use Rattle.panako_judge.proofs.judge_binned.Statement.{statement}
+use Rattle.panako_judge.proofs.judge_binned.Tie as tie
+
+abbrev start : tie.After-admitted → tie.Start
+start c = c .before .before
+
+abbrev votes : tie.Start → List Vote
+votes o = votesIn (o .args .s .now) 0 (o .args .g)
+
+fits : (o : tie.Start) → 0 + o .args .g ≤ length (o .args .s .now)
+fits o = omega (arith, o .pre .0 .before, o .pre .0 .room)
+
+-- what the first gates found
+entry : (c : tie.After-admitted) → c .admitted .result ≡ admits (start c .args .q .«frames_per_sec») (c .before .f32-from-bits .result) (start c .args .q .cfg .«min_votes») (length (votes (start c)))
+entry c =
+    let o = start c in
+    c .admitted .ensures ∙ ap (λ (n : ℕ). admits (o .args .q .«frames_per_sec») (c .before .f32-from-bits .result) (o .args .q .cfg .«min_votes») n) (sym (votes-length (o .args .s .now) 0 (o .args .g) (fits o)))
+
+f32-from-bits-requires : tie.Need-f32-from-bits-requires
+f32-from-bits-requires c κs = search needs
+
+admitted-requires : tie.Need-admitted-requires
+admitted-requires c κs = search needs
+
+returns : tie.Need-returns
+returns c =
+    let o = start (c .before) in
+    let q = o .args .q in
+    let f = c .before .before .f32-from-bits in
+    let w = seen q (o .args .rate) (votes o) in
+    judged-by q (o .args .rate) (votes o) (f .result) (f .ensures) Barred (bar-entry (thresholdsOf q) (f .result) (length (votes o)) (atPeak w) (resultOf q (f .result) w) (sym (entry (c .before)) ∙ not-true _ (c .if1 .taken)))
+
+mul-e : tie.Need-mul-e
+mul-e c = search needs
+
+add-e : tie.Need-add-e
+add-e c = search needs
+
+mul-weigh : tie.Need-mul-weigh
+mul-weigh c = search needs
+
+sub-weigh : tie.Need-sub-weigh
+sub-weigh c = search needs
+
+part-weigh-start : tie.Need-part-weigh-start
+part-weigh-start c = search needs
+
+part-weigh-end : tie.Need-part-weigh-end
+part-weigh-end c = search needs
+
+weigh-requires : tie.Need-weigh-requires
+weigh-requires c κs =
+    let o = c .before .before .before .before in
+    let b = o .pre .0 in (
+      bins-good (o .args .s .now) 0 (o .args .g) (fits o) (o .args .n) _ (b .number) (b .bins) (o .pre .2),
+      bins-some (o .args .s .now) 0 (o .args .g) (fits o) (o .args .n) _ (b .number) (b .bins) (o .pre .1),
+      o .pre .3,
+    )
+
+returns-2 : tie.Need-returns-2
+returns-2 c =
+    let e = c .before .before in
+    let o = start (e .before) in
+    let q = o .args .q in
+    let f = e .before .before .f32-from-bits in
+    let w = seen q (o .args .rate) (votes o) in
+    let b = o .pre .0 in
+    judged-by q (o .args .rate) (votes o) (f .result) (f .ensures) (c .weigh .result)
+    (goes-on (thresholdsOf q) (f .result) (length (votes o)) (atPeak w) (resultOf q (f .result) w) (sym (entry (e .before)) ∙ not-false _ (e .if1 .left)) (c .weigh .result)
+    (weighed-bins (o .args .s .now) 0 (o .args .g) (fits o) (o .args .n) _ (b .number) (b .bins) q (f .result) (c .weigh .result) (c .weigh .ensures)))
+
+pub judge-binned-spec : {M : Type 1} → statement M
+judge-binned-spec =
+    tie.close
+    (tie.spec
+    f32-from-bits-requires
+    admitted-requires
+    returns
+    mul-e
+    add-e
+    mul-weigh
+    sub-weigh
+    part-weigh-start
+    part-weigh-end
+    weigh-requires
+    returns-2)

@@ -1,0 +1,181 @@
+// One candidate of a Panako query, judged from its sorted votes: the body of the loop over candidates in
+// `PanakoIndex::query` of the reference.
+ghost use mathlib.Core.Path.{_≡_};
+ghost use Prim.Native.Nat.{_+_, _*_, _≤_, _<_, _^_};
+ghost use lib.IntN.{pos, natAbs, _+ℤ_, _-ℤ_};
+ghost use lib.ListN.{length, set, take};
+ghost use Rattle.maps.specs.Words.{SameOutside};
+ghost use Rattle.wang_judge.specs.Gates.{admits, peakGates, resultAt, passing, verdictOf};
+ghost use Rattle.few_bins.specs.Tally.{counted};
+ghost use Rattle.hough.specs.Hough.{scale, peakOffset};
+ghost use Rattle.hough.specs.Limits.{Bins};
+ghost use Rattle.panako_vote.specs.Votes.{InRange};
+ghost use Rattle.panako_judge.specs.Judge.{middle, binCount, seenOf, thresholdsOf, atPeak, timeScaleOf, resultOf, judgeBy};
+ghost use Rattle.panako_judge.specs.Candidates.{lowest, wordOf, votesIn, Candidate, Binned};
+use bins::Form;
+use hough::Peak;
+use matching::MatchResult;
+use panako_vote::PanakoMatchConfig;
+use wang_judge::Verdict;
+
+pub const LOWEST: u64 = 0x8000_0000_0000_0000;
+
+const MIDDLE: i64 = 0x80_0000_0000;
+
+// How the votes stand in words.
+const FORM: Form = Form {
+    low: LOWEST,
+    bits: 0,
+    size: 52,
+    scaled: true,
+};
+
+// What every candidate of a query is judged with: normalised settings, the query's rate, how many hashes it has.
+pub struct PanakoQuery {
+    pub cfg: PanakoMatchConfig,
+    pub frames_per_sec: f32,
+    pub q_len: usize,
+}
+
+// ---- a vote as a word
+
+// The offset counted from -2^39.
+fn place_of(offset: i64) -> u64
+    requires { ⌜ InRange offset ⌝ }
+    ensures { λ r. ⌜ (r ≡ natAbs (offset +ℤ pos middle)) × (r < 2 ^ 40) ⌝ }
+{
+    let up = offset + MIDDLE;
+    up as u64
+}
+
+// 12 bits of id, 12 of scale bin, 40 of place.
+fn pack(id: u64, bin: u64, place: u64) -> u64
+    requires { ⌜ (id < 2 ^ 12) × (bin < 2 ^ 12) × (place < 2 ^ 40) ⌝ }
+    ensures { λ r. ⌜ r ≡ id * 2 ^ 52 + (bin * 2 ^ 40 + place) ⌝ }
+{
+    (id << 52) + ((bin << 40) + place)
+}
+
+// x less 2^63.
+fn lowered(x: u64) -> i64
+    ensures { λ r. ⌜ r ≡ pos x -ℤ pos lowest ⌝ }
+{
+    if x < LOWEST {
+        let m = (LOWEST - 1 - x) as i64;
+        return -1 - m;
+    }
+    (x - LOWEST) as i64
+}
+
+// Stores a vote in word i.
+pub fn put_vote(s: &mut [i64], i: usize, id: u64, bin: u32, offset: i64)
+    requires { ⌜ (i < length (now s)) × (id < 2 ^ 12) × (bin < 2 ^ 12) × InRange offset ⌝ }
+    ensures { λ _. ⌜ now (s .exit) ≡ set (now (s .entry)) i (wordOf id (record { bin = bin; offset = offset })) ⌝ }
+{
+    s[i] = lowered(pack(id, maps::wide(bin), place_of(offset)));
+}
+
+// ---- the judge
+
+// The time scale of a scale bin.
+fn time_scale_of(cfg: PanakoMatchConfig, bin: u64) -> f32
+    requires { ⌜ bin ≤ 4095 ⌝ }
+    ensures { λ r. ⌜ r ≡ timeScaleOf cfg bin ⌝ }
+{
+    let grid = panako_vote::scale_grid(cfg);
+    matching::time_scale(matching::scale_centre(grid.scale_min, grid.scale_per_bin, bin as u32))
+}
+
+// The result of n bins with the peak p.
+fn result(
+    s: &[i64],
+    n: usize,
+    q: PanakoQuery,
+    p: Peak,
+    score: f32,
+    prominence: f32,
+    fps: f32,
+) -> MatchResult
+    requires { ⌜ Bins (now s) n × (q .cfg .«offset_tolerance_frames» ≤ 65535) × (p .at < n) × (p .votes ≤ 1000000) ⌝ }
+    ensures { λ r. ⌜ r ≡ resultAt (record { votes = p .votes; prominence = prominence; score = score })
+        (peakOffset (now (s .entry)) n (q .cfg .«offset_tolerance_frames») (p .at)) fps (timeScaleOf (q .cfg) (scale (now (s .entry)) (p .at))) ⌝ }
+{
+    let cfg = q.cfg;
+    let frames = hough::panako_peak_offset(s, n, maps::wide(cfg.offset_tolerance_frames), p.at);
+    let scale = time_scale_of(cfg, hough::scale_at(s, n, p.at));
+    wang_judge::result(score, p.votes, prominence, frames, fps, scale)
+}
+
+// Steps 3 and 4, of n bins.
+fn weigh(s: &[i64], n: usize, q: PanakoQuery, fps: f32) -> Verdict
+    requires { ⌜ Bins (now s) n × (0 < n) × (q .cfg .«offset_tolerance_frames» ≤ 65535) ⌝ }
+    ensures { λ r. ⌜ r ≡ verdictOf (passing (peakGates (thresholdsOf q) (atPeak (seenOf q (now (s .entry)) n))) (resultOf q fps (seenOf q (now (s .entry)) n))) ⌝ }
+{
+    let cfg = q.cfg;
+    let tol = maps::wide(cfg.offset_tolerance_frames);
+    let mut sums = [0u64; 32];
+    hough::few_sums(&mut sums, s, n, tol);
+    let p = hough::panako_hough_peak(s, n, tol, &sums);
+    let votes = p.votes;
+    if votes < maps::wide(cfg.min_votes) {
+        return Verdict::Barred;
+    }
+    let prominence = hough::panako_prominence(s, n, tol, p, &sums);
+    if matching::below_threshold(prominence, cfg.min_prominence) {
+        return Verdict::Barred;
+    }
+    let score = matching::score(votes, q.q_len as u64);
+    if matching::below_threshold(score, cfg.min_score) {
+        return Verdict::Barred;
+    }
+    Verdict::Passed(result(s, n, q, p, score, prominence, fps))
+}
+
+// Steps 1 and 2, of a candidate with g votes whose row has the rate fps.
+fn admitted(q: PanakoQuery, fps: f32, g: usize) -> bool
+    ensures { λ r. ⌜ r ≡ admits (q .«frames_per_sec») fps (q .cfg .«min_votes») g ⌝ }
+{
+    let cfg = q.cfg;
+    wang_judge::admitted(q.frames_per_sec, fps, cfg.min_votes, g)
+}
+
+// A candidate: the g votes from word a on, in order, and its row's rate. Its bins are written from word `at` on.
+pub fn judge(s: &mut [i64], a: usize, g: usize, at: usize, q: PanakoQuery, rate: u32) -> Verdict
+    requires { ⌜ Candidate (now s) a g at q ⌝ }
+    ensures { λ r. ⌜ (r ≡ verdictOf (judgeBy q rate (votesIn (now (s .entry)) a g)))
+        × SameOutside (now (s .entry)) (now (s .exit)) at (at + 3 * g) ⌝ }
+{
+    let fps = floats::f32_from_bits(rate);
+    if !admitted(q, fps, g) {
+        return Verdict::Barred;
+    }
+    let n = bins::count_sorted(s, a, g, at, FORM, MIDDLE as u64);
+    let e = at + 3 * n;
+    weigh(&s[at..e], n, q, fps)
+}
+
+// ---- a candidate with few bins
+
+// The bins of the first g votes, where they are few, are written from word `at` on: no order is asked of the votes. Yields how many bins there are,
+// or 0 where they are more.
+pub fn count_few(s: &mut [i64], g: usize, at: usize) -> usize
+    requires { ⌜ (g ≤ at) × (at + 3 * g ≤ length (now s)) × (g ≤ 1000000) ⌝ }
+    ensures { λ n. ⌜ n ≡ counted (binCount (votesIn (now (s .entry)) 0 g)) ⌝ }
+    ensures { λ n. ⌜ (0 < n → Binned (now (s .exit)) g at n) ⌝ }
+    ensures { λ _. ⌜ take g (now (s .exit)) ≡ take g (now (s .entry)) ⌝ }
+{
+    few_bins::count_few(s, 0, g, at, FORM, MIDDLE as u64)
+}
+
+// A candidate: the first g votes, its row's rate, and its n bins from word `at` on.
+pub fn judge_binned(s: &[i64], g: usize, at: usize, n: usize, q: PanakoQuery, rate: u32) -> Verdict
+    requires { ⌜ Binned (now s) g at n × (0 < g) × (g ≤ 1000000) × (q .cfg .«offset_tolerance_frames» ≤ 65535) ⌝ }
+    ensures { λ r. ⌜ r ≡ verdictOf (judgeBy q rate (votesIn (now (s .entry)) 0 g)) ⌝ }
+{
+    let fps = floats::f32_from_bits(rate);
+    if !admitted(q, fps, g) {
+        return Verdict::Barred;
+    }
+    let e = at + 3 * n;
+    weigh(&s[at..e], n, q, fps)
+}

@@ -1,0 +1,58 @@
+-- `panako_votes::pair_count` meets its contract. Assumes nothing.
+use mathlib.Core.Path.{sym, _∙_}
+use Prim.Native.Nat.{_+_, _*_}
+use native.Mathlib.Omega.{arith}
+use lib.ListN.{getD}
+use Rattle.panako_votes.proofs.Pairs.{one-vote, no-vote, voteOfPair, pair-is}
+use borrow.Author.Needs.{needs}
+use Rattle.panako_votes.proofs.pair_count.Statement.{statement}
+use Rattle.panako_votes.proofs.pair_count.Tie as tie
+
+mul-k : tie.Need-mul-k
+mul-k c = search needs
+
+add-has-vote : tie.Need-add-has-vote
+add-has-vote c = search needs
+
+mul-has-vote : tie.Need-mul-has-vote
+mul-has-vote c = search needs
+
+shared-slice-read-has-vote : tie.Need-shared-slice-read-has-vote
+shared-slice-read-has-vote c = search needs
+
+add-has-vote-2 : tie.Need-add-has-vote-2
+add-has-vote-2 c = search needs
+
+mul-has-vote-2 : tie.Need-mul-has-vote-2
+mul-has-vote-2 c = search needs
+
+shared-slice-read-has-vote-2 : tie.Need-shared-slice-read-has-vote-2
+shared-slice-read-has-vote-2 c = search needs
+
+has-vote-requires : tie.Need-has-vote-requires
+has-vote-requires c κs = search needs
+
+returns : tie.Need-returns
+returns c =
+    let a = c .before .before .before .before .before .args in
+    rw (pair-is (a .g) (a .qa) (a .qc) (a .part .now) (a .j)) (one-vote (getD (a .part .now) (5 * a .j + 1) 0) (voteOfPair (a .g) (a .qa) (a .qc) (a .part .now) (a .j)) (sym (c .before .has-vote .ensures) ∙ c .if1 .taken), omega arith)
+
+returns-2 : tie.Need-returns-2
+returns-2 c =
+    let a = c .before .before .before .before .before .args in
+    rw (pair-is (a .g) (a .qa) (a .qc) (a .part .now) (a .j)) (no-vote (getD (a .part .now) (5 * a .j + 1) 0) (voteOfPair (a .g) (a .qa) (a .qc) (a .part .now) (a .j)) (sym (c .before .has-vote .ensures) ∙ c .if1 .left), omega arith)
+
+pub pair-count-spec : {M : Type 1} → statement M
+pair-count-spec =
+    tie.close
+    (tie.spec
+    mul-k
+    add-has-vote
+    mul-has-vote
+    shared-slice-read-has-vote
+    add-has-vote-2
+    mul-has-vote-2
+    shared-slice-read-has-vote-2
+    has-vote-requires
+    returns
+    returns-2)

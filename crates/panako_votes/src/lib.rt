@@ -1,0 +1,294 @@
+// The votes of a Panako query: counted, then gathered as words into lent scratch.
+ghost use mathlib.Core.Path.{_≡_};
+ghost use mathlib.Core.Bool.{true};
+ghost use mathlib.Core.List.{_++_};
+ghost use Prim.Native.Nat.{_+_, _*_, _≤_, _<_, _^_, min};
+ghost use lib.Dec.{leb, ltb};
+ghost use lib.ListN.{length, getD, take, set};
+ghost use Rattle.lists.specs.Keys.{under};
+ghost use Rattle.lists.specs.Entries.{entries, entryAt, keyOf, keysAscend};
+ghost use Rattle.maps.specs.Sums.{when};
+ghost use Rattle.maps.specs.Entries.{firstAt};
+ghost use Rattle.query_search.specs.Starts.{Starts, Ends, Sought};
+ghost use Rattle.panako_vote.specs.Grids.{Limited};
+ghost use Rattle.query_laws.specs.Gathered.{Ids};
+ghost use Rattle.panako_votes.specs.Gathered.{wordsWith, words, voteCount, wordsOn, Packable};
+ghost use Rattle.panako_votes.specs.Listed.{Listed};
+use panako_vote::ScaleGrid;
+use panako_vote::Vote;
+
+// How many votes a query hash at qa .. qc has with posting j of a part: none or one.
+fn pair_count(g: ScaleGrid, qa: u32, qc: u32, part: &[u32], j: usize) -> usize
+    requires { ⌜ 5 * j + 5 ≤ length (now part) ⌝ }
+    ensures { λ r. ⌜ (r ≡ length (wordsWith g qa qc (entryAt 5 j (now (part .entry))))) × (r ≤ 1) ⌝ }
+{
+    let k = 5 * j;
+    if panako_vote::has_vote(g, qa, qc, part[k + 2], part[k + 4]) {
+        return 1;
+    }
+    0
+}
+
+// The votes of m query hashes with p postings; `starts` says where those of each hash begin. They are held at one more than the room: the
+// counting ends at the vote that passes it. Where it is not passed, `ends` says where the postings of each hash end.
+fn count_votes(
+    ends: &mut [u32],
+    posts: &[u32],
+    p: usize,
+    hashes: &[u32],
+    m: usize,
+    starts: &[u32],
+    g: ScaleGrid,
+    room: usize,
+) -> usize
+    requires { ⌜ Sought (now posts) 5 p (now hashes) 4 m × Starts (now posts) 5 p (now hashes) 4 m (now starts) × (m ≤ length (now starts)) × (m ≤ length (now ends)) × (room ≤ 1000000) ⌝ }
+    ensures { λ r. ⌜ r ≡ min (room + 1) (voteCount g (entries 5 p (now (posts .entry))) (entries 4 m (now (hashes .entry)))) ⌝ }
+    ensures { λ r. ⌜ (r ≤ room → Ends (now (posts .entry)) 5 p (now (hashes .entry)) 4 m (now (ends .exit))) ⌝ }
+{
+    let mut v = 0;
+    let mut i = 0;
+    'hashes: while i < m {
+        let k = 4 * i;
+        let qa = hashes[k + 1];
+        let qc = hashes[k + 3];
+        let start = starts[i];
+        let part = maps::part_at(posts, 5, p, start / 5, hashes[k]);
+        let n = part.len() / 5;
+        let mut j = 0;
+        while j < n {
+            v += pair_count(g, qa, qc, part, j);
+            if room < v {
+                break 'hashes;
+            }
+            j += 1;
+        }
+        ends[i] = start + 5 * (n as u32);
+        i += 1;
+    }
+    v
+}
+
+// Whether the votes of m query hashes with p postings fit the room; then `ends` says where the postings of each hash end. Where the postings
+// met fit, the votes do, and are not counted.
+pub fn fits(
+    ends: &mut [u32],
+    posts: &[u32],
+    p: usize,
+    hashes: &[u32],
+    m: usize,
+    starts: &[u32],
+    g: ScaleGrid,
+    room: usize,
+) -> bool
+    requires { ⌜ Sought (now posts) 5 p (now hashes) 4 m × Starts (now posts) 5 p (now hashes) 4 m (now starts) × (m ≤ length (now starts)) × (m ≤ length (now ends)) × (room ≤ 1000000) ⌝ }
+    ensures { λ r. ⌜ r ≡ leb (voteCount g (entries 5 p (now (posts .entry))) (entries 4 m (now (hashes .entry)))) room ⌝ }
+    ensures { λ r. ⌜ (r ≡ true → Ends (now (posts .entry)) 5 p (now (hashes .entry)) 4 m (now (ends .exit))) ⌝ }
+{
+    if query_search::meet(ends, starts, posts, 5, p, hashes, 4, m, room) <= room {
+        return true;
+    }
+    count_votes(ends, posts, p, hashes, m, starts, g, room) <= room
+}
+
+// The vote of a query hash at qa .. qc and posting j of a part, if they have one, goes to word `at`. Yields where the votes end.
+fn put_pair(
+    s: &mut [i64],
+    at: usize,
+    part: &[u32],
+    j: usize,
+    g: ScaleGrid,
+    qa: u32,
+    qc: u32,
+) -> usize
+    requires { ⌜ (at + length (wordsWith g qa qc (entryAt 5 j (now part))) ≤ length (now s)) × (5 * j + 5 ≤ length (now part)) × (getD (now part) (5 * j + 1) 0 < 2 ^ 12) × Limited g ⌝ }
+    ensures { λ r. ⌜ (r ≡ at + length (wordsWith g qa qc (entryAt 5 j (now (part .entry)))))
+        × (take r (now (s .exit)) ≡ take at (now (s .entry)) ++ wordsWith g qa qc (entryAt 5 j (now (part .entry)))) ⌝ }
+{
+    let k = 5 * j;
+    let id = maps::wide(part[k + 1]);
+    match panako_vote::pair_vote(g, qa, qc, part[k + 2], part[k + 4]) {
+        Vote::Nothing => at,
+        Vote::At { bin, offset } => {
+            panako_judge::put_vote(s, at, id, bin, offset);
+            at + 1
+        }
+    }
+}
+
+// The votes of a query hash with n postings go to the words from `at` on. Yields where they end.
+fn gather_part(
+    s: &mut [i64],
+    at: usize,
+    part: &[u32],
+    n: usize,
+    g: ScaleGrid,
+    qa: u32,
+    qc: u32,
+) -> usize
+    requires { ⌜ (at + length (wordsOn g qa qc (entries 5 n (now part))) ≤ length (now s)) × (5 * n ≤ length (now part)) × Ids (entries 5 n (now part)) × Limited g ⌝ }
+    ensures { λ r. ⌜ (r ≡ at + length (wordsOn g qa qc (entries 5 n (now (part .entry)))))
+        × (take r (now (s .exit)) ≡ take at (now (s .entry)) ++ wordsOn g qa qc (entries 5 n (now (part .entry)))) ⌝ }
+{
+    let mut v = at;
+    let mut j = 0;
+    while j < n {
+        v = put_pair(s, v, part, j, g, qa, qc);
+        j += 1;
+    }
+    v
+}
+
+// The same with all of p postings that stand under a key, from word `start` to before word `end`.
+fn gather_key(
+    s: &mut [i64],
+    at: usize,
+    posts: &[u32],
+    p: usize,
+    start: u32,
+    end: u32,
+    key: u32,
+    g: ScaleGrid,
+    qa: u32,
+    qc: u32,
+) -> usize
+    requires { ⌜ (5 * p ≤ length (now posts)) × (keysAscend (now posts) 5 p ≡ true) × (start ≡ 5 * firstAt (now posts) 5 p key) × (end ≡ 5 * firstAt (now posts) 5 p (key + 1)) × Ids (entries 5 p (now posts)) × Limited g
+        × (at + length (wordsOn g qa qc (under keyOf key (entries 5 p (now posts)))) ≤ length (now s)) ⌝ }
+    ensures { λ r. ⌜ (r ≡ at + length (wordsOn g qa qc (under keyOf key (entries 5 p (now (posts .entry))))))
+        × (take r (now (s .exit)) ≡ take at (now (s .entry)) ++ wordsOn g qa qc (under keyOf key (entries 5 p (now (posts .entry))))) ⌝ }
+{
+    let part = query_search::part_of(posts, 5, p, start, end, key);
+    let n = part.len() / 5;
+    gather_part(s, at, part, n, g, qa, qc)
+}
+
+// 1 where hash i meets a posting, which is where its postings end behind their start; else 0.
+fn is_met(starts: &[u32], ends: &[u32], i: usize) -> usize
+    requires { ⌜ (i < length (now starts)) × (i < length (now ends)) ⌝ }
+    ensures { λ r. ⌜ (r ≡ when (ltb (getD (now (starts .entry)) i 0) (getD (now (ends .entry)) i 0)) 1) × (r ≤ 1) ⌝ }
+{
+    if starts[i] < ends[i] { 1 } else { 0 }
+}
+
+// Lists hash i as word k where it meets a posting, which `met` says: 1 or 0. Yields how many are listed then. It has no branch on that: one hash in four
+// meets none, which can't be foreseen.
+fn list_one(which: &mut [u32], k: usize, i: usize, met: usize) -> usize
+    requires { ⌜ (k < length (now which)) × (k ≤ 2048) × (i ≤ 2048) × (met ≤ 1) ⌝ }
+    ensures { λ r. ⌜ (r ≡ k + met) × (now (which .exit) ≡ set (now (which .entry)) k i) ⌝ }
+{
+    which[k] = i as u32;
+    k + met
+}
+
+// Lists those of the next four hashes. All are looked at before the first word is written: where a word goes depends on what was read, and a processor
+// may hold later reads back until it knows.
+fn list_four(which: &mut [u32], starts: &[u32], ends: &[u32], i: usize, k: usize) -> usize
+    requires { ⌜ (i + 4 ≤ length (now which)) × (i + 4 ≤ length (now starts)) × (i + 4 ≤ length (now ends)) × (i + 4 ≤ 2048) × Listed (now starts) (now ends) (now which) i k ⌝ }
+    ensures { λ r. ⌜ Listed (now (starts .entry)) (now (ends .entry)) (now (which .exit)) (i + 4) r ⌝ }
+{
+    let a = is_met(starts, ends, i);
+    let b = is_met(starts, ends, i + 1);
+    let c = is_met(starts, ends, i + 2);
+    let d = is_met(starts, ends, i + 3);
+    let first = list_one(which, k, i, a);
+    let second = list_one(which, first, i + 1, b);
+    let third = list_one(which, second, i + 2, c);
+    list_one(which, third, i + 3, d)
+}
+
+// Lists those of m query hashes from hash `from` on, where `listed` are listed.
+fn list_rest(
+    which: &mut [u32],
+    starts: &[u32],
+    ends: &[u32],
+    m: usize,
+    from: usize,
+    listed: usize,
+) -> usize
+    requires { ⌜ (m ≤ length (now which)) × (m ≤ length (now starts)) × (m ≤ length (now ends)) × (m ≤ 2048) × (from ≤ m) × Listed (now starts) (now ends) (now which) from listed ⌝ }
+    ensures { λ r. ⌜ Listed (now (starts .entry)) (now (ends .entry)) (now (which .exit)) m r ⌝ }
+{
+    let mut k = listed;
+    let mut i = from;
+    while i < m {
+        let met = is_met(starts, ends, i);
+        k = list_one(which, k, i, met);
+        i += 1;
+    }
+    k
+}
+
+// Those of m query hashes that meet a posting go to `which`, in order. Yields how many they are.
+fn list_met(which: &mut [u32], starts: &[u32], ends: &[u32], m: usize) -> usize
+    requires { ⌜ (m ≤ length (now which)) × (m ≤ length (now starts)) × (m ≤ length (now ends)) × (m ≤ 2048) ⌝ }
+    ensures { λ r. ⌜ Listed (now (starts .entry)) (now (ends .entry)) (now (which .exit)) m r ⌝ }
+{
+    let mut k = 0;
+    let mut i = 0;
+    while i + 4 <= m {
+        k = list_four(which, starts, ends, i, k);
+        i += 4;
+    }
+    list_rest(which, starts, ends, m, i, k)
+}
+
+// The votes of m query hashes with p postings, as words from the first on; the k hashes that meet a posting are listed. Yields how many.
+fn gather_listed(
+    s: &mut [i64],
+    posts: &[u32],
+    p: usize,
+    hashes: &[u32],
+    m: usize,
+    starts: &[u32],
+    ends: &[u32],
+    which: &[u32],
+    k: usize,
+    g: ScaleGrid,
+) -> usize
+    requires { ⌜ Packable (now posts) p (now hashes) m g × Starts (now posts) 5 p (now hashes) 4 m (now starts) × Ends (now posts) 5 p (now hashes) 4 m (now ends)
+        × (m ≤ length (now starts)) × (m ≤ length (now ends)) × Listed (now starts) (now ends) (now which) m k × (m ≤ length (now which))
+        × (voteCount g (entries 5 p (now posts)) (entries 4 m (now hashes)) ≤ length (now s)) ⌝ }
+    ensures { λ r. ⌜ (r ≡ voteCount g (entries 5 p (now (posts .entry))) (entries 4 m (now (hashes .entry))))
+        × (take r (now (s .exit)) ≡ words g (entries 5 p (now (posts .entry))) (entries 4 m (now (hashes .entry)))) ⌝ }
+{
+    let mut v = 0;
+    let mut j = 0;
+    while j < k {
+        let i = which[j] as usize;
+        let t = 4 * i;
+        v = gather_key(
+            s,
+            v,
+            posts,
+            p,
+            starts[i],
+            ends[i],
+            hashes[t],
+            g,
+            hashes[t + 1],
+            hashes[t + 3],
+        );
+        j += 1;
+    }
+    v
+}
+
+// The votes of m query hashes with p postings, as words from the first on. Yields how many. `which` is written over.
+pub fn gather(
+    s: &mut [i64],
+    posts: &[u32],
+    p: usize,
+    hashes: &[u32],
+    m: usize,
+    starts: &[u32],
+    ends: &[u32],
+    which: &mut [u32],
+    g: ScaleGrid,
+) -> usize
+    requires { ⌜ Packable (now posts) p (now hashes) m g × Starts (now posts) 5 p (now hashes) 4 m (now starts) × Ends (now posts) 5 p (now hashes) 4 m (now ends)
+        × (m ≤ length (now starts)) × (m ≤ length (now ends)) × (m ≤ length (now which)) × (voteCount g (entries 5 p (now posts)) (entries 4 m (now hashes)) ≤ length (now s)) ⌝ }
+    ensures { λ r. ⌜ (r ≡ voteCount g (entries 5 p (now (posts .entry))) (entries 4 m (now (hashes .entry))))
+        × (take r (now (s .exit)) ≡ words g (entries 5 p (now (posts .entry))) (entries 4 m (now (hashes .entry)))) ⌝ }
+{
+    let k = list_met(which, starts, ends, m);
+    gather_listed(s, posts, p, hashes, m, starts, ends, which, k, g)
+}

@@ -1,0 +1,58 @@
+-- A query on a store's words: refused before its votes are counted, or answered by them. Assumes nothing.
+use mathlib.Core.Path.{_≡_, sym, ap, _∙_}
+use mathlib.Core.Bool.{true}
+use mathlib.Core.List.{List}
+use Prim.Native.Nat.{ℕ, _-_, _/_, _%_, _≤_}
+use lib.IntN.{ℤ}
+use lib.ListN.{length, getD}
+use lib.Dec.{eqb, leb}
+use borrow.Author.Tests.{leb-true}
+use Rattle.lists.specs.Entries.{entries}
+use Rattle.lists.proofs.Tests.{and-right}
+use Rattle.model.specs.Fingerprints.{hashesOf}
+use Rattle.model.specs.Rows.{Row}
+use Rattle.model.specs.Query.{Scheme, Query}
+use Rattle.model.specs.Calls.{Answer, refused}
+use Rattle.model.specs.Words.{Words}
+use Rattle.model.specs.Run.{runQuery}
+use Rattle.query_rank.specs.Answers.{scratchAfter}
+use Rattle.query_refusals.specs.Early.{wholeVotes, earlyRefusal}
+use Rattle.query_refusals.proofs.Early.{Passed, passed, refused-early, query-is}
+use Rattle.query_laws.specs.Gathered.{Pairing, wordsFrom}
+use Rattle.query_laws.specs.Candidates.{Reading, answerIn}
+use Rattle.query_laws.proofs.Gathering.{RightAll}
+use Rattle.query_laws.proofs.Meaning.{answer-is}
+
+-- "whole votes only, 0 to 1,000,000 votes"
+pub few-votes : (v n : ℕ) → wholeVotes v n ≡ true → n / v ≤ 1000000
+unfolding wholeVotes
+few-votes v n h = leb-true (n / v) 1000000 (and-right (eqb (n % v) 0) (leb (n / v) 1000000) h)
+
+module _ (S : Scheme) (w2 : 2 ≤ S .width) (m : Words) (a : S .Ask) (hs : List ℕ) (s : List ℤ) (r : ℕ) (e : r ≡ earlyRefusal (S .width) (S .voteWords) m (length s) hs (S .beyond a)) where
+  abbrev asked : Query S
+  asked = record { ask = a; words = hs; scratch = length s }
+
+  abbrev run : Answer × Words
+  run = runQuery S m asked
+
+  -- one of refusals 1 to 4
+  pub refused-is : (r ≡ 0 → ⊥) → (refused r ≡ run .0) × ((m ≡ run .1) × (s ≡ scratchAfter (run .0) s))
+  refused-is ne =
+      let o = refused-early S m asked w2 (λ z. ne (e ∙ z)) in
+      (ap refused e ∙ sym (ap (λ (x : Answer × Words). x .0) o), (sym (ap (λ (x : Answer × Words). x .1) o), ap (λ (x : Answer × Words). scratchAfter (x .0) s) (sym o)))
+
+  -- none of them
+  module _ (z : r ≡ 0) where
+    pub none-before : Passed (S .width) (S .voteWords) m (length s) hs (S .beyond a)
+    none-before = passed (S .width) (S .voteWords) m (length s) hs (S .beyond a) (sym e ∙ z)
+
+    pub found-is : (R : Reading (S .Vote)) → ((q : Row) (vs : List (S .Vote)) → R .judge q vs ≡ S .judge a (hashesOf (S .width) hs) q vs) → (pair : Pairing)
+        → RightAll S R a pair (entries (S .width) (getD (m .references) 2 0) (m .postings)) 0 (entries (S .width - 1) (length (hashesOf (S .width) hs)) hs)
+        → (x : Answer) (s′ : List ℤ)
+        → x ≡ answerIn R (length s / S .voteWords) (m .references) (wordsFrom pair 0 (entries (S .width) (getD (m .references) 2 0) (m .postings)) (entries (S .width - 1) (length (hashesOf (S .width) hs)) hs))
+        → s′ ≡ scratchAfter (answerIn R (length s / S .voteWords) (m .references) (wordsFrom pair 0 (entries (S .width) (getD (m .references) 2 0) (m .postings)) (entries (S .width - 1) (length (hashesOf (S .width) hs)) hs))) s
+        → (x ≡ run .0) × ((m ≡ run .1) × (s′ ≡ scratchAfter (run .0) s))
+    found-is R judges pair H x s′ ex es =
+        let o = query-is S m asked w2 (sym e ∙ z) in
+        let b = answer-is S w2 m (none-before .is-listed) (none-before .is-sound) a hs (length s) R judges pair H ∙ sym (ap (λ (y : Answer × Words). y .0) o) in
+        (ex ∙ b, (sym (ap (λ (y : Answer × Words). y .1) o), es ∙ ap (λ (y : Answer). scratchAfter y s) b))

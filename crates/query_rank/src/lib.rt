@@ -1,0 +1,45 @@
+// The best of a query's candidates, kept one by one, and the query's answer.
+ghost use mathlib.Core.Path.{_≡_};
+ghost use mathlib.Core.Option.{some};
+ghost use Rattle.model.specs.Query.{trackBest};
+ghost use Rattle.model.specs.Calls.{answerOf};
+ghost use Rattle.query_rank.specs.Answers.{bestSoFar, findingAnswer};
+use matching::MatchResult;
+
+// The best candidate so far: its id and its result.
+pub enum Best {
+    Nothing,
+    At(u32, MatchResult),
+}
+
+// "best with its result, none, or refused with a number".
+pub enum Finding {
+    Refused(u32),
+    Nothing,
+    Best(u32, MatchResult),
+}
+
+// A candidate comes next: it becomes the best where none stands or where it ranks above.
+pub fn track_best(best: Best, id: u32, result: MatchResult) -> Best
+    ensures { λ r. ⌜ bestSoFar r ≡ trackBest (bestSoFar best) id (some result) ⌝ }
+{
+    match best {
+        Best::Nothing => Best::At(id, result),
+        Best::At(first, old) => {
+            if matching::is_better(result, old) {
+                return Best::At(id, result);
+            }
+            Best::At(first, old)
+        }
+    }
+}
+
+// The answer of a query whose best candidate is `best`.
+pub fn answer_of(best: Best) -> Finding
+    ensures { λ r. ⌜ findingAnswer r ≡ answerOf (bestSoFar best) ⌝ }
+{
+    match best {
+        Best::Nothing => Finding::Nothing,
+        Best::At(id, result) => Finding::Best(id, result),
+    }
+}

@@ -1,0 +1,53 @@
+-- `remove::erase` meets its contract. Assumes nothing.
+use mathlib.Core.Path.{_∙_}
+use native.Mathlib.Omega.{arith}
+use borrow.Author.Needs.{needs}
+use mathlib.Core.List.{[], _∷_}
+use Rattle.remove.proofs.Erased.{few-stay}
+use borrow.Author.Needs.{needs}
+use borrow.Author.Needs.{needs}
+use Rattle.remove.proofs.erase.Statement.{statement}
+use Rattle.remove.proofs.erase.Tie as tie
+
+slice-read-size : tie.Need-slice-read-size
+slice-read-size c = search needs
+
+size-requires : tie.Need-size-requires
+size-requires c κs = search needs
+
+slice-aggregate-retain : tie.Need-slice-aggregate-retain
+slice-aggregate-retain c = search needs
+
+retain-requires : tie.Need-retain-requires
+retain-requires c κs = (record { field = omega arith; room = rw (c .before .before .size .ensures) (c .before .before .before .before .before .before .pre .held); start = omega arith }, record { room = omega arith; ascending = (tt, tt) })
+
+cast-vacate : tie.Need-cast-vacate
+cast-vacate c = let s = c .before .before .before .before .before .before .before .before .before .before in
+    let r = c .before .before .before .retain in
+    omega (arith, r .ensures .0, few-stay (s .args .w) (c .before .before .before .before .before .before .size .result) 1 (s .args .id ∷ []) (s .args .posts .now), c .before .before .before .before .before .before .size .ensures, s .pre .few)
+
+vacate-requires : tie.Need-vacate-requires
+vacate-requires c κs = search needs
+
+same-length : tie.Need-same-length
+same-length c = search needs
+
+same-length-2 : tie.Need-same-length-2
+same-length-2 c = search needs
+
+returns : tie.Need-returns
+returns c = (c .before .before .vacate .ensures ∙ rw (c .before .before .before .before .before .before .retain .ensures .0, c .before .before .before .before .before .before .before .before .before .size .ensures), c .before .before .before .before .before .before .retain .ensures .1 ∙ rw (c .before .before .before .before .before .before .before .before .before .size .ensures))
+
+pub erase-spec : {M : Type 1} → statement M
+erase-spec =
+    tie.close
+    (tie.spec
+    slice-read-size
+    size-requires
+    slice-aggregate-retain
+    retain-requires
+    cast-vacate
+    vacate-requires
+    same-length
+    same-length-2
+    returns)

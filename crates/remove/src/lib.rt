@@ -1,0 +1,93 @@
+// live_count and remove on the lent store. The width w of a posting is 3 (Wang) or 5 (Panako).
+ghost use mathlib.Core.Path.{_≡_};
+ghost use Prim.Native.Nat.{_+_, _*_, _≤_};
+ghost use lib.ListN.{length, getD};
+ghost use Rattle.model.specs.Soundness.{liveId};
+ghost use Rattle.model.specs.Run.{runCount, runRemove};
+ghost use Rattle.soundness.specs.Scan.{words};
+ghost use Rattle.remove.specs.Answers.{countAnswer, removalAnswer};
+ghost use Rattle.remove.specs.Erasing.{vacated, others, othersLeft, Erasable};
+use postings::at;
+use rows::row_word;
+use rows::size;
+use soundness::NO_RATE;
+use soundness::refusal_of;
+
+pub enum LiveCount {
+    Refused(u32),
+    Count(u32),
+}
+
+pub enum Removal {
+    Refused(u32),
+    Removed(bool),
+}
+
+// How many recordings are live.
+pub fn live_count(refs: &[u32], posts: &[u32], stops: &[u32], w: usize) -> LiveCount
+    requires { ⌜ (3 ≤ w) × (w ≤ 5) ⌝ }
+    ensures { λ r. ⌜ countAnswer r ≡ runCount w (words (now (refs .entry)) (now (posts .entry)) (now (stops .entry))) .0 ⌝ }
+    ensures { λ _. ⌜ words (now (refs .entry)) (now (posts .entry)) (now (stops .entry)) ≡ runCount w (words (now (refs .entry)) (now (posts .entry)) (now (stops .entry))) .1 ⌝ }
+{
+    let r = refusal_of(refs, posts, stops, w);
+    if r != 0 {
+        return LiveCount::Refused(r);
+    }
+    LiveCount::Count(at(refs, 0) - at(refs, 1))
+}
+
+// Whether id is live.
+fn is_live(refs: &[u32], id: u32) -> bool
+    requires { ⌜ (4 ≤ length (now refs)) × (4 * getD (now refs) 0 0 + 4 ≤ length (now refs)) ⌝ }
+    ensures { λ r. ⌜ r ≡ liveId (now (refs .entry)) (getD (now (refs .entry)) 0 0) id ⌝ }
+{
+    let j = size(id);
+    if size(at(refs, 0)) <= j {
+        return false;
+    }
+    row_word(refs, j, 2) == 1
+}
+
+// Row id becomes dead and id the last of the vacant entries; `held` postings are left.
+fn vacate(refs: &mut [u32], id: u32, held: u32)
+    requires { ⌜ (4 * id + 8 ≤ length (now refs)) × (4 * getD (now refs) 1 0 + 8 ≤ length (now refs)) × (getD (now refs) 1 0 ≤ 4096) ⌝ }
+    ensures { λ _. ⌜ now (refs .exit) ≡ vacated (now (refs .entry)) id held ⌝ }
+{
+    let n = refs[0];
+    let v = refs[1];
+    let k = refs[3];
+    rows::put_row(refs, size(id), NO_RATE, 0, 0);
+    rows::put_entry(refs, size(v), id);
+    rows::put_header(refs, n, v + 1, held, k);
+}
+
+// The postings of id go, and it is vacated.
+fn erase(refs: &mut [u32], posts: &mut [u32], w: usize, id: u32)
+    requires { ⌜ Erasable w (now refs) (now posts) id ⌝ }
+    ensures { λ _. ⌜ now (refs .exit) ≡ vacated (now (refs .entry)) id (length (others w (now (refs .entry)) (now (posts .entry)) id)) ⌝ }
+    ensures { λ _. ⌜ now (posts .exit) ≡ othersLeft w (now (refs .entry)) (now (posts .entry)) id ⌝ }
+{
+    let p = size(refs[2]);
+    let ids = [id];
+    let q = postings::retain(posts, w, p, 1, &ids, 1);
+    vacate(refs, id, q as u32);
+}
+
+// A recording goes.
+pub fn remove(refs: &mut [u32], posts: &mut [u32], stops: &[u32], w: usize, id: u32) -> Removal
+    requires { ⌜ (3 ≤ w) × (w ≤ 5) ⌝ }
+    ensures { λ r. ⌜ removalAnswer r ≡ runRemove w (words (now (refs .entry)) (now (posts .entry)) (now (stops .entry))) id .0 ⌝ }
+    ensures { λ _. ⌜ now (refs .exit) ≡ runRemove w (words (now (refs .entry)) (now (posts .entry)) (now (stops .entry))) id .1 .references ⌝ }
+    ensures { λ _. ⌜ now (posts .exit) ≡ runRemove w (words (now (refs .entry)) (now (posts .entry)) (now (stops .entry))) id .1 .postings ⌝ }
+    ensures { λ _. ⌜ now (stops .entry) ≡ runRemove w (words (now (refs .entry)) (now (posts .entry)) (now (stops .entry))) id .1 .stopped ⌝ }
+{
+    let r = refusal_of(refs, posts, stops, w);
+    if r != 0 {
+        return Removal::Refused(r);
+    }
+    if !is_live(refs, id) {
+        return Removal::Removed(false);
+    }
+    erase(refs, posts, w, id);
+    Removal::Removed(true)
+}

@@ -1,0 +1,70 @@
+-- `sheet_records::insert_record` meets its contract. Assumes nothing.
+use Rattle.sheet_records.proofs.Steps.{done}
+use Rattle.lists.proofs.Entries.{rest-all}
+use Rattle.insert.specs.Insert.{insertionAnswer}
+use Rattle.model.specs.Calls.{insert}
+use Rattle.sheet_text.proofs.Puts.{as-text}
+use Rattle.wang_judge.specs.Scheme.{wang}
+use Rattle.soundness.specs.Scan.{words}
+use Rattle.model.specs.Run.{run}
+use lib.ListN.{getD}
+use denote.Ref.{now}
+use Prim.Native.Nat.{ℕ}
+use mathlib.Core.List.{List}
+use mathlib.Core.Path.{ap}
+use borrow.Author.Needs.{needs}
+use Rattle.sheet_records.proofs.insert_record.Statement.{statement}
+use Rattle.sheet_records.proofs.insert_record.Tie as tie
+
+shared-slice-read-limit : tie.Need-shared-slice-read-limit
+shared-slice-read-limit c = search needs
+
+shared-slice-read-rate : tie.Need-shared-slice-read-rate
+shared-slice-read-rate c = search needs
+
+sub-insert : tie.Need-sub-insert
+sub-insert c = search needs
+
+part-insert-start : tie.Need-part-insert-start
+part-insert-start c = search needs
+
+part-insert-end : tie.Need-part-insert-end
+part-insert-end c = search needs
+
+insert-requires : tie.Need-insert-requires
+insert-requires c κs = search needs
+
+put-insertion-requires : tie.Need-put-insertion-requires
+put-insertion-requires c κs = search needs
+
+same-length : tie.Need-same-length
+same-length c = search needs
+
+same-length-2 : tie.Need-same-length-2
+same-length-2 c = search needs
+
+same-length-3 : tie.Need-same-length-3
+same-length-3 c = search needs
+
+same-length-4 : tie.Need-same-length-4
+same-length-4 c = search needs
+
+returns : tie.Need-returns
+returns c = let a = c .before .before .before .before .before .before .before .before .before .before .before .before .before .before .before .before .before .before .before .before .before .before .args in let f = now (a .fields) in let m = words (now (a .refs)) (now (a .postings)) (now (a .stopped)) in let k = c .before .before .before .before .before .before .before .before .before .before .insert in let p = c .before .before .put-insertion .ensures in let d = done f _ _ _ (insertionAnswer (k .result)) _ _ (ap (λ (h : List ℕ). run wang m (insert (getD f 0 0) (getD f 1 0) h)) (rest-all f 2)) (k .ensures .0) (k .ensures .1 .0) (k .ensures .1 .1 .0) (k .ensures .1 .1 .1) in (as-text (p .0 (getD f 0 0)) (d .0), (p .1, d .1))
+
+pub insert-record-spec : {M : Type 1} → statement M
+insert-record-spec =
+    tie.close
+    (tie.spec
+    shared-slice-read-limit
+    shared-slice-read-rate
+    sub-insert
+    part-insert-start
+    part-insert-end
+    insert-requires
+    put-insertion-requires
+    same-length
+    same-length-2
+    same-length-3
+    same-length-4
+    returns)

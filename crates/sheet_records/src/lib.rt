@@ -1,0 +1,133 @@
+// The program sheet's step on one record: a record's bytes in, its line out, and the store as the record's call leaves it.
+ghost use mathlib.Core.Path.{_≡_};
+ghost use mathlib.Core.Bool.{true};
+ghost use Prim.Native.Nat.{_+_, _*_, _≤_};
+ghost use lib.ListN.{length, getD};
+ghost use Rattle.model.specs.Run.{run};
+ghost use Rattle.soundness.specs.Scan.{words};
+ghost use Rattle.wang_judge.specs.Scheme.{wang};
+ghost use Rattle.sheet_kinds.specs.Kinds.{zeroScratch, insertCall, removeCall, queryCall, kindOf, goodLength};
+ghost use Rattle.sheet_records.specs.Step.{lineAndStore, stepBy, stepOf};
+ghost use Rattle.sheet_text.specs.Put.{Put};
+use wang::WangIndex;
+
+// 01: limit, rate bits, hashes.
+fn insert_record(
+    fields: &[u32],
+    refs: &mut [u32],
+    postings: &mut [u32],
+    stopped: &mut [u32],
+    line: &mut [u8],
+    at: usize,
+) -> usize
+    requires { ⌜ (2 ≤ length (now fields)) × (at + 128 ≤ length (now line)) ⌝ }
+    ensures { λ r. ⌜ Put (now (line .entry)) (now (line .exit)) at r (lineAndStore (now (fields .entry)) (run wang (words (now (refs .entry)) (now (postings .entry)) (now (stopped .entry))) (insertCall (now (fields .entry)))) .0) ⌝ }
+    ensures { λ r. ⌜ r ≤ at + 128 ⌝ }
+    ensures { λ _. ⌜ words (now (refs .exit)) (now (postings .exit)) (now (stopped .exit)) ≡ run wang (words (now (refs .entry)) (now (postings .entry)) (now (stopped .entry))) (insertCall (now (fields .entry))) .1 ⌝ }
+{
+    let limit = fields[0];
+    let rate = fields[1];
+    let answer = WangIndex::insert(refs, postings, stopped, &fields[2..], rate, limit);
+    sheet_lines::put_insertion(line, at, answer)
+}
+
+// 02: id.
+fn remove_record(
+    fields: &[u32],
+    refs: &mut [u32],
+    postings: &mut [u32],
+    stopped: &[u32],
+    line: &mut [u8],
+    at: usize,
+) -> usize
+    requires { ⌜ (1 ≤ length (now fields)) × (at + 128 ≤ length (now line)) ⌝ }
+    ensures { λ r. ⌜ Put (now (line .entry)) (now (line .exit)) at r (lineAndStore (now (fields .entry)) (run wang (words (now (refs .entry)) (now (postings .entry)) (now (stopped .entry))) (removeCall (now (fields .entry)))) .0) ⌝ }
+    ensures { λ r. ⌜ r ≤ at + 128 ⌝ }
+    ensures { λ _. ⌜ words (now (refs .exit)) (now (postings .exit)) (now (stopped .entry)) ≡ run wang (words (now (refs .entry)) (now (postings .entry)) (now (stopped .entry))) (removeCall (now (fields .entry))) .1 ⌝ }
+{
+    let id = fields[0];
+    let answer = WangIndex::remove(refs, postings, stopped, id);
+    sheet_lines::put_removal(line, at, id, answer)
+}
+
+// 03: tolerance, min_votes, min_score bits, min_prominence bits, rate bits, hashes.
+fn query_record(
+    fields: &[u32],
+    refs: &[u32],
+    postings: &[u32],
+    stopped: &[u32],
+    scratch: &mut [i64],
+    line: &mut [u8],
+    at: usize,
+) -> usize
+    requires { ⌜ (5 ≤ length (now fields)) × (at + 128 ≤ length (now line)) ⌝ }
+    requires { ⌜ now scratch ≡ zeroScratch ⌝ }
+    ensures { λ r. ⌜ Put (now (line .entry)) (now (line .exit)) at r (lineAndStore (now (fields .entry)) (run wang (words (now (refs .entry)) (now (postings .entry)) (now (stopped .entry))) (queryCall (now (fields .entry)))) .0) ⌝ }
+    ensures { λ r. ⌜ r ≤ at + 128 ⌝ }
+    ensures { λ _. ⌜ words (now (refs .entry)) (now (postings .entry)) (now (stopped .entry)) ≡ run wang (words (now (refs .entry)) (now (postings .entry)) (now (stopped .entry))) (queryCall (now (fields .entry))) .1 ⌝ }
+    ensures { λ _. ⌜ now (scratch .exit) ≡ zeroScratch ⌝ }
+{
+    let cfg = wang_judge::config_of(fields[0], fields[1], fields[2], fields[3]);
+    let rate = floats::f32_from_bits(fields[4]);
+    let answer = WangIndex::query(refs, postings, stopped, scratch, &fields[5..], rate, cfg);
+    sheet_lines::put_finding(line, at, answer)
+}
+
+// A record by its kind byte and its fields.
+fn run_record(
+    kind: u8,
+    fields: &[u32],
+    refs: &mut [u32],
+    postings: &mut [u32],
+    stopped: &mut [u32],
+    scratch: &mut [i64],
+    line: &mut [u8],
+    at: usize,
+) -> usize
+    requires { ⌜ (goodLength (4 * length (now fields) + 1) kind ≡ true) × (at + 128 ≤ length (now line)) ⌝ }
+    requires { ⌜ now scratch ≡ zeroScratch ⌝ }
+    ensures { λ r. ⌜ Put (now (line .entry)) (now (line .exit)) at r (stepBy (words (now (refs .entry)) (now (postings .entry)) (now (stopped .entry))) (now (fields .entry)) (kindOf kind) .0) ⌝ }
+    ensures { λ r. ⌜ r ≤ at + 128 ⌝ }
+    ensures { λ _. ⌜ words (now (refs .exit)) (now (postings .exit)) (now (stopped .exit)) ≡ stepBy (words (now (refs .entry)) (now (postings .entry)) (now (stopped .entry))) (now (fields .entry)) (kindOf kind) .1 ⌝ }
+    ensures { λ _. ⌜ now (scratch .exit) ≡ zeroScratch ⌝ }
+{
+    if kind == 1 {
+        return insert_record(fields, refs, postings, stopped, line, at);
+    }
+    if kind == 2 {
+        return remove_record(fields, refs, postings, stopped, line, at);
+    }
+    query_record(fields, refs, postings, stopped, scratch, line, at)
+}
+
+// The step on one record, whose length is good for its kind: puts its line behind the first `at` bytes of a lent buffer and answers where the
+// line ends. A line has at most 128 bytes. The scratch has room for 512 votes, and is zeros before and after.
+pub fn step(
+    bytes: &[u8],
+    refs: &mut [u32],
+    postings: &mut [u32],
+    stopped: &mut [u32],
+    scratch: &mut [i64],
+    line: &mut [u8],
+    at: usize,
+) -> usize
+    requires { ⌜ (goodLength (length (now bytes)) (getD (now bytes) 0 0) ≡ true) × (at + 128 ≤ length (now line)) ⌝ }
+    requires { ⌜ now scratch ≡ zeroScratch ⌝ }
+    ensures { λ r. ⌜ Put (now (line .entry)) (now (line .exit)) at r (stepOf (words (now (refs .entry)) (now (postings .entry)) (now (stopped .entry))) (now (bytes .entry)) .0) ⌝ }
+    ensures { λ r. ⌜ r ≤ at + 128 ⌝ }
+    ensures { λ _. ⌜ words (now (refs .exit)) (now (postings .exit)) (now (stopped .exit)) ≡ stepOf (words (now (refs .entry)) (now (postings .entry)) (now (stopped .entry))) (now (bytes .entry)) .1 ⌝ }
+    ensures { λ _. ⌜ now (scratch .exit) ≡ zeroScratch ⌝ }
+{
+    let mut fields = [0u32; 2048];
+    let n = sheet_text::read_fields(bytes, &mut fields);
+    run_record(
+        bytes[0],
+        &fields[..n],
+        refs,
+        postings,
+        stopped,
+        scratch,
+        line,
+        at,
+    )
+}

@@ -1,0 +1,102 @@
+-- `wang_query::best_of` meets its contract: at the loop's test the candidates with votes before word i have been judged. Assumes nothing.
+use mathlib.Core.Path.{_≡_}
+use Prim.Native.Nat.{_-_}
+use native.Mathlib.Omega.{arith}
+use Rattle.query_rank.specs.Answers.{bestSoFar}
+use Rattle.query_laws.proofs.Turns.{judged-none, judged-all}
+use Rattle.wang_query.specs.Candidates.{reading, Spanned}
+use Rattle.wang_query.proofs.Turns.{Walked, candidate, walked-on}
+use borrow.Author.Needs.{needs}
+use Rattle.wang_query.proofs.best_of.Statement.{statement}
+use Rattle.wang_query.proofs.best_of.Tie as tie
+
+abbrev Inv-loop : tie.InvT-loop
+Inv-loop s₀ v refs q best₀ i₀ s best i = Walked refs q s₀ s v (bestSoFar best) i
+
+abbrev μ-loop : tie.MeasureT-loop
+μ-loop s₀ v refs q best₀ i₀ s best i = v - i
+
+loop-holds : tie.Need-loop-holds Inv-loop μ-loop
+loop-holds c = let a = c .before .args in judged-none (reading (a .q)) (a .refs .now) (Spanned (a .refs .now) (a .q .«q_max»)) 4 (a .s .now) (a .v) (c .before .pre .words)
+
+run-end-requires : tie.Need-run-end-requires Inv-loop μ-loop
+run-end-requires c κs = let W = c .before .before .loop .inv .votes in omega (arith, W .room)
+
+lead-at-requires : tie.Need-lead-at-requires Inv-loop μ-loop
+lead-at-requires c κs = let W = c .before .before .before .before .loop .inv .votes in omega (arith, W .room)
+
+row-word-requires : tie.Need-row-word-requires Inv-loop μ-loop
+row-word-requires c κs =
+    let W = c .before .before .before .before .before .loop .inv .votes in
+    let L = c .before .before .before .before .before .before .before .pre .limits in
+    omega (arith, c .lead-at .ensures, W .each (c .before .before .before .before .before .loop .i) (omega arith) .known, L .rows)
+
+row-word-requires-2 : tie.Need-row-word-requires-2 Inv-loop μ-loop
+row-word-requires-2 c κs =
+    let W = c .before .before .before .before .before .before .loop .inv .votes in
+    let L = c .before .before .before .before .before .before .before .before .pre .limits in
+    omega (arith, c .before .lead-at .ensures, W .each (c .before .before .before .before .before .before .loop .i) (omega arith) .known, L .rows)
+
+cast-keep : tie.Need-cast-keep Inv-loop μ-loop
+cast-keep c =
+    let W = c .before .before .before .before .before .before .before .loop .inv .votes in
+    let L = c .before .before .before .before .before .before .before .before .before .pre .limits in
+    record { fits = omega (arith, c .before .before .lead-at .ensures, W .each (c .before .before .before .before .before .before .before .loop .i) (omega arith) .known, L .many) }
+
+sub-judge : tie.Need-sub-judge Inv-loop μ-loop
+sub-judge c = omega (arith, c .before .before .before .before .before .run-end .ensures .since)
+
+mul-judge : tie.Need-mul-judge Inv-loop μ-loop
+mul-judge c = let W = c .before .before .before .before .before .before .before .before .loop .inv .votes in record { fits = omega (arith, W .few) }
+
+judge-requires : tie.Need-judge-requires Inv-loop μ-loop
+judge-requires c κs =
+    let s = c .before .before .before .before .before .before .before .before .before .before in
+    let l = c .before .before .before .before .before .before .before .before .loop in
+    rw (c .before .row-word2 .ensures, c .before .before .before .lead-at .ensures)
+    (candidate (s .args .refs .now) (s .args .q) (s .args .s .now) (l .s) (s .args .v) (bestSoFar (l .best)) (l .i) (l .inv) (c .before .before .before .before .before .before .before .loop-test .taken) (c .before .before .before .before .before .run-end .result) (c .before .before .before .before .before .run-end .ensures) (s .pre .limits))
+
+keep-requires : tie.Need-keep-requires Inv-loop μ-loop
+keep-requires c κs = search needs
+
+loop-less : tie.Need-loop-less Inv-loop μ-loop
+loop-less c = omega (arith, c .before .before .before .before .before .before .before .before .run-end .ensures .since)
+
+loop-again : tie.Need-loop-again Inv-loop μ-loop
+loop-again c =
+    let s = c .before .before .before .before .before .before .before .before .before .before .before .before .before in
+    let l = c .before .before .before .before .before .before .before .before .before .before .before .loop in
+    walked-on (s .args .refs .now) (s .args .q) (s .args .s .now) (l .s) (s .args .v) (bestSoFar (l .best)) (l .i) (l .inv) (c .before .before .before .before .before .before .before .before .before .before .loop-test .taken) (c .before .before .before .before .before .before .before .before .run-end .result) (c .before .before .before .before .before .before .before .before .run-end .ensures)
+    (c .before .before .judge .last .0) _ (c .before .before .judge .kept .0) (c .before .before .judge .ensures .1) (c .before .before .before .before .before .before .lead-at .result) (c .before .before .before .before .before .row-word .result) (c .before .before .before .before .row-word2 .result) (c .before .before .judge .result) (bestSoFar (c .keep .result))
+    (c .before .before .before .before .before .before .lead-at .ensures) (c .before .before .before .before .before .row-word .ensures) (c .before .before .before .before .row-word2 .ensures) (c .before .before .judge .ensures .0) (c .keep .ensures)
+
+same-length : tie.Need-same-length Inv-loop μ-loop
+same-length c = c .before .loop .inv .long
+
+returns : tie.Need-returns Inv-loop μ-loop
+returns c =
+    let l = c .before .loop in
+    let s = c .before .before .before in
+    let e : l .i ≡ s .args .v = omega (arith, l .inv .on) in
+    judged-all (reading (s .args .q)) (s .args .refs .now) (Spanned (s .args .refs .now) (s .args .q .«q_max»)) 4 (s .args .s .now) (l .s) (s .args .v) (bestSoFar (l .best)) (rw e at (l .inv))
+
+pub best-of-spec : {M : Type 1} → statement M
+best-of-spec =
+    tie.close
+    (tie.spec
+    Inv-loop
+    μ-loop
+    loop-holds
+    run-end-requires
+    lead-at-requires
+    row-word-requires
+    row-word-requires-2
+    cast-keep
+    sub-judge
+    mul-judge
+    judge-requires
+    keep-requires
+    loop-less
+    loop-again
+    same-length
+    returns)

@@ -1,0 +1,104 @@
+// The votes of a Wang query, gathered as words into lent scratch.
+ghost use mathlib.Core.Path.{_≡_};
+ghost use mathlib.Core.Bool.{true, cond};
+ghost use mathlib.Core.List.{_++_};
+ghost use Prim.Native.Nat.{_+_, _*_, _/_, _≤_, _<_, _^_};
+ghost use lib.IntN.{pos};
+ghost use lib.Dec.{ltb};
+ghost use lib.ListN.{length, getD, take, set};
+ghost use Rattle.lists.specs.Keys.{under};
+ghost use Rattle.lists.specs.Entries.{entries, entryAt, keyOf, keysAscend};
+ghost use Rattle.maps.specs.Entries.{firstAt};
+ghost use Rattle.bins.specs.Votes.{packed};
+ghost use Rattle.query_search.specs.Starts.{Starts, Ends, met};
+ghost use Rattle.query_laws.specs.Gathered.{Ids};
+ghost use Rattle.wang_votes.specs.Gathered.{voteWord, words, wordsOn, Packable};
+
+// The vote of the query hash at position q with the posting at word k goes to word `at`.
+fn put_posting(s: &mut [i64], at: usize, posts: &[u32], k: usize, shift: u64, q: u64)
+    requires { ⌜ (at < length (now s)) × (k + 2 < length (now posts)) × (getD (now posts) (k + 1) 0 < 2 ^ 12) × (shift < 2 ^ 32) × (q < 2 ^ 11) ⌝ }
+    ensures { λ _. ⌜ now (s .exit) ≡ set (now (s .entry)) at (pos (packed (getD (now (posts .entry)) (k + 1) 0) (getD (now (posts .entry)) (k + 2) 0 + shift) q)) ⌝ }
+{
+    let id = maps::wide(posts[k + 1]);
+    let t = maps::wide(posts[k + 2]);
+    maps::put_word(s, at, bins::pack(id, t + shift, q));
+}
+
+// The votes of the query hash at position q with n postings go to the words from `at` on.
+fn gather_part(s: &mut [i64], at: usize, part: &[u32], n: usize, shift: u64, q: u64)
+    requires { ⌜ (at + n ≤ length (now s)) × (3 * n ≤ length (now part)) × Ids (entries 3 n (now part)) × (shift < 2 ^ 32) × (q < 2 ^ 11) ⌝ }
+    ensures { λ _. ⌜ take (at + n) (now (s .exit)) ≡ take at (now (s .entry)) ++ wordsOn shift q (entries 3 n (now (part .entry))) ⌝ }
+{
+    let mut j = 0;
+    while j < n {
+        put_posting(s, at + j, part, 3 * j, shift, q);
+        j += 1;
+    }
+}
+
+// The vote with the posting at word a, of p postings, goes to word `at`, where there are such a posting and such a word.
+fn gather_first(s: &mut [i64], at: usize, posts: &[u32], p: usize, a: usize, shift: u64, q: u64)
+    requires { ⌜ (3 * p ≤ length (now posts)) × Ids (entries 3 p (now posts)) × (a ≡ 3 * (a / 3)) × (shift < 2 ^ 32) × (q < 2 ^ 11) ⌝ }
+    ensures { λ _. ⌜ now (s .exit) ≡ cond (ltb a (3 * p)) (set (now (s .entry)) at (pos (voteWord shift q (entryAt 3 (a / 3) (now (posts .entry)))))) (now (s .entry)) ⌝ }
+{
+    if (a < 3 * p) & (at < s.len()) {
+        put_posting(s, at, posts, a, shift, q);
+    }
+}
+
+// The votes with all of p postings that stand under a key, from word `start` to before word `end`. Yields where the votes end. One vote at most is
+// written without asking whether it is there, since that can't be predicted: where it isn't, its word is not counted.
+fn gather_key(
+    s: &mut [i64],
+    at: usize,
+    posts: &[u32],
+    p: usize,
+    start: u32,
+    end: u32,
+    key: u32,
+    shift: u64,
+    q: u64,
+) -> usize
+    requires { ⌜ (3 * p ≤ length (now posts)) × (keysAscend (now posts) 3 p ≡ true) × (start ≡ 3 * firstAt (now posts) 3 p key) × (end ≡ 3 * firstAt (now posts) 3 p (key + 1))
+        × Ids (entries 3 p (now posts)) × (at + length (under keyOf key (entries 3 p (now posts))) ≤ length (now s)) × (shift < 2 ^ 32) × (q < 2 ^ 11) ⌝ }
+    ensures { λ r. ⌜ (r ≡ at + length (under keyOf key (entries 3 p (now (posts .entry)))))
+        × (take r (now (s .exit)) ≡ take at (now (s .entry)) ++ wordsOn shift q (under keyOf key (entries 3 p (now (posts .entry))))) ⌝ }
+{
+    let n = ((end - start) / 3) as usize;
+    if n <= 1 {
+        gather_first(s, at, posts, p, start as usize, shift, q);
+        return at + n;
+    }
+    let part = query_search::part_of(posts, 3, p, start, end, key);
+    gather_part(s, at, part, n, shift, q);
+    at + n
+}
+
+// The votes of m query hashes with p postings, as words from the first on; `starts` and `ends` say where the postings of each hash begin and
+// end, `top` is the largest query anchor. Each posting met is one vote. Yields how many.
+pub fn gather(
+    s: &mut [i64],
+    posts: &[u32],
+    p: usize,
+    hashes: &[u32],
+    m: usize,
+    starts: &[u32],
+    ends: &[u32],
+    top: u64,
+) -> usize
+    requires { ⌜ Packable (now posts) p (now hashes) m top × Starts (now posts) 3 p (now hashes) 2 m (now starts) × Ends (now posts) 3 p (now hashes) 2 m (now ends)
+        × (m ≤ length (now starts)) × (m ≤ length (now ends)) × (met (entries 3 p (now posts)) (entries 2 m (now hashes)) ≤ length (now s)) ⌝ }
+    ensures { λ r. ⌜ (r ≡ met (entries 3 p (now (posts .entry))) (entries 2 m (now (hashes .entry))))
+        × (take r (now (s .exit)) ≡ words top (entries 3 p (now (posts .entry))) (entries 2 m (now (hashes .entry)))) ⌝ }
+{
+    let mut v = 0;
+    let mut i = 0;
+    while i < m {
+        let k = 2 * i;
+        let key = hashes[k];
+        let t = maps::wide(hashes[k + 1]);
+        v = gather_key(s, v, posts, p, starts[i], ends[i], key, top - t, i as u64);
+        i += 1;
+    }
+    v
+}
