@@ -2,4 +2,3 @@
 pub mod Steps
 pub mod Levels
 pub mod Meeting
-pub mod Pivots
