@@ -81,10 +81,6 @@ module _ (starts ends : List ℕ) where
         meets = each (λ (j t : ℕ). getD starts t 0 < getD ends t 0) (L .meets) (λ h. h);
       }
 
-    -- the same, by what a call says
-    pub listed-next : (r k′ i′ : ℕ) (which′ : List ℕ) → i < length which → r ≡ when (ltb (getD starts i 0) (getD ends i 0)) 1 → k′ ≡ k + r → which′ ≡ set which k i → i′ ≡ i + 1 → Listed starts ends which′ i′ k′
-    listed-next r k′ i′ which′ lt er ek ew ei = rw (ek, ew, ei) (listed-more r lt er)
-
 -- ---- the walk over those listed
 
 none-of : {A : Type 0} (l : List A) → length l ≡ 0 → l ≡ []

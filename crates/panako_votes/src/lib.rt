@@ -4,7 +4,7 @@ ghost use mathlib.Core.Bool.{true};
 ghost use mathlib.Core.List.{_++_};
 ghost use Prim.Native.Nat.{_+_, _*_, _≤_, _<_, _^_, min};
 ghost use lib.Dec.{leb, ltb};
-ghost use lib.ListN.{length, getD, take, set};
+ghost use lib.ListN.{length, getD, take};
 ghost use Rattle.lists.specs.Keys.{under};
 ghost use Rattle.lists.specs.Entries.{entries, entryAt, keyOf, keysAscend};
 ghost use Rattle.maps.specs.Sums.{when};
@@ -161,74 +161,27 @@ fn gather_key(
     gather_part(s, at, part, n, g, qa, qc)
 }
 
-// 1 where hash i meets a posting, which is where its postings end behind their start; else 0.
-fn is_met(starts: &[u32], ends: &[u32], i: usize) -> usize
-    requires { ⌜ (i < length (now starts)) × (i < length (now ends)) ⌝ }
-    ensures { λ r. ⌜ (r ≡ when (ltb (getD (now (starts .entry)) i 0) (getD (now (ends .entry)) i 0)) 1) × (r ≤ 1) ⌝ }
+// 1 where the postings from word `start` to before word `end` are some, else 0.
+fn is_met(start: u32, end: u32) -> usize
+    ensures { λ r. ⌜ (r ≡ when (ltb start end) 1) × (r ≤ 1) ⌝ }
 {
-    if starts[i] < ends[i] { 1 } else { 0 }
+    if start < end { 1 } else { 0 }
 }
 
-// Lists hash i as word k where it meets a posting, which `met` says: 1 or 0. Yields how many are listed then. It has no branch on that: one hash in four
+// Those of m query hashes that meet a posting go to `which`, in order. Yields how many they are. It has no branch on them: one hash in four
 // meets none, which can't be foreseen.
-fn list_one(which: &mut [u32], k: usize, i: usize, met: usize) -> usize
-    requires { ⌜ (k < length (now which)) × (k ≤ 2048) × (i ≤ 2048) × (met ≤ 1) ⌝ }
-    ensures { λ r. ⌜ (r ≡ k + met) × (now (which .exit) ≡ set (now (which .entry)) k i) ⌝ }
-{
-    which[k] = i as u32;
-    k + met
-}
-
-// Lists those of the next four hashes. All are looked at before the first word is written: where a word goes depends on what was read, and a processor
-// may hold later reads back until it knows.
-fn list_four(which: &mut [u32], starts: &[u32], ends: &[u32], i: usize, k: usize) -> usize
-    requires { ⌜ (i + 4 ≤ length (now which)) × (i + 4 ≤ length (now starts)) × (i + 4 ≤ length (now ends)) × (i + 4 ≤ 2048) × Listed (now starts) (now ends) (now which) i k ⌝ }
-    ensures { λ r. ⌜ Listed (now (starts .entry)) (now (ends .entry)) (now (which .exit)) (i + 4) r ⌝ }
-{
-    let a = is_met(starts, ends, i);
-    let b = is_met(starts, ends, i + 1);
-    let c = is_met(starts, ends, i + 2);
-    let d = is_met(starts, ends, i + 3);
-    let first = list_one(which, k, i, a);
-    let second = list_one(which, first, i + 1, b);
-    let third = list_one(which, second, i + 2, c);
-    list_one(which, third, i + 3, d)
-}
-
-// Lists those of m query hashes from hash `from` on, where `listed` are listed.
-fn list_rest(
-    which: &mut [u32],
-    starts: &[u32],
-    ends: &[u32],
-    m: usize,
-    from: usize,
-    listed: usize,
-) -> usize
-    requires { ⌜ (m ≤ length (now which)) × (m ≤ length (now starts)) × (m ≤ length (now ends)) × (m ≤ 2048) × (from ≤ m) × Listed (now starts) (now ends) (now which) from listed ⌝ }
-    ensures { λ r. ⌜ Listed (now (starts .entry)) (now (ends .entry)) (now (which .exit)) m r ⌝ }
-{
-    let mut k = listed;
-    let mut i = from;
-    while i < m {
-        let met = is_met(starts, ends, i);
-        k = list_one(which, k, i, met);
-        i += 1;
-    }
-    k
-}
-
-// Those of m query hashes that meet a posting go to `which`, in order. Yields how many they are.
 fn list_met(which: &mut [u32], starts: &[u32], ends: &[u32], m: usize) -> usize
     requires { ⌜ (m ≤ length (now which)) × (m ≤ length (now starts)) × (m ≤ length (now ends)) × (m ≤ 2048) ⌝ }
     ensures { λ r. ⌜ Listed (now (starts .entry)) (now (ends .entry)) (now (which .exit)) m r ⌝ }
 {
     let mut k = 0;
     let mut i = 0;
-    while i + 4 <= m {
-        k = list_four(which, starts, ends, i, k);
-        i += 4;
+    while i < m {
+        which[k] = i as u32;
+        k += is_met(starts[i], ends[i]);
+        i += 1;
     }
-    list_rest(which, starts, ends, m, i, k)
+    k
 }
 
 // The votes of m query hashes with p postings, as words from the first on; the k hashes that meet a posting are listed. Yields how many.

@@ -2,31 +2,48 @@
 use mathlib.Core.Path.{_≡_, refl, _∙_}
 use Prim.Native.Nat.{_-_, _≤_}
 use native.Mathlib.Omega.{arith}
-use lib.ListN.{length}
+use lib.ListN.{length, length-set}
 use Rattle.panako_votes.specs.Listed.{Listed}
-use Rattle.panako_votes.proofs.Listing.{listed-none}
+use Rattle.panako_votes.proofs.Listing.{listed-none, listed-few, listed-more}
 use borrow.Author.Needs.{needs}
 use Rattle.panako_votes.proofs.list_met.Statement.{statement}
 use Rattle.panako_votes.proofs.list_met.Tie as tie
 
 abbrev Inv-loop : tie.InvT-loop
-Inv-loop which₀ starts ends m k₀ i₀ which k i = (i ≤ m) × Listed starts ends which i k × (length which ≡ length which₀)
+Inv-loop which₀ starts ends m k₀ i₀ which k i = (i ≤ m) × Listed starts ends which i k × (k ≤ i) × (length which ≡ length which₀)
 
 abbrev μ-loop : tie.MeasureT-loop
 μ-loop which₀ starts ends m k₀ i₀ which k i = m - i
 
 loop-holds : tie.Need-loop-holds Inv-loop μ-loop
-loop-holds c = let a = c .before .before .before .args in (omega arith, listed-none (a .starts .now) (a .ends .now) (a .which .now), refl)
+loop-holds c = let a = c .before .before .before .args in (omega arith, listed-none (a .starts .now) (a .ends .now) (a .which .now), omega arith, refl)
 
-add-loop : tie.Need-add-loop Inv-loop μ-loop
-add-loop c = search needs
+cast-which : tie.Need-cast-which Inv-loop μ-loop
+cast-which c = search needs
 
-list-four-requires : tie.Need-list-four-requires Inv-loop μ-loop
-list-four-requires c κs =
-    let i = c .before in
-    let l = i .before .loop in
-    let o = i .before .before .before .before .before in
-    (omega (arith, o .pre .0, l .inv .2), omega (arith, o .pre .1), omega (arith, o .pre .2), omega (arith, o .pre .3), l .inv .1)
+mul-which : tie.Need-mul-which Inv-loop μ-loop
+mul-which c = search needs
+
+slice-write-which : tie.Need-slice-write-which Inv-loop μ-loop
+slice-write-which c = search needs
+
+mul-is-met : tie.Need-mul-is-met Inv-loop μ-loop
+mul-is-met c = search needs
+
+shared-slice-read-is-met : tie.Need-shared-slice-read-is-met Inv-loop μ-loop
+shared-slice-read-is-met c = search needs
+
+mul-is-met-2 : tie.Need-mul-is-met-2 Inv-loop μ-loop
+mul-is-met-2 c = search needs
+
+shared-slice-read-is-met-2 : tie.Need-shared-slice-read-is-met-2 Inv-loop μ-loop
+shared-slice-read-is-met-2 c = search needs
+
+is-met-requires : tie.Need-is-met-requires Inv-loop μ-loop
+is-met-requires c κs = search needs
+
+add-k : tie.Need-add-k Inv-loop μ-loop
+add-k c = search needs
 
 add-i : tie.Need-add-i Inv-loop μ-loop
 add-i c = search needs
@@ -36,21 +53,20 @@ loop-less c = search needs
 
 loop-again : tie.Need-loop-again Inv-loop μ-loop
 loop-again c =
-    let f = c .before .before in
-    let l = f .before .before .before .loop in
-    (omega arith, f .list-four .ensures, f .list-four .kept .0 ∙ l .inv .2)
-
-list-rest-requires : tie.Need-list-rest-requires Inv-loop μ-loop
-list-rest-requires c κs =
-    let l = c .before .before .loop in
-    let o = c .before .before .before .before .before .before in
-    (omega (arith, o .pre .0, l .inv .2), omega (arith, o .pre .1), omega (arith, o .pre .2), omega (arith, o .pre .3), omega (arith, l .inv .0), l .inv .1)
+    let o = c .before .before .before .before in
+    let l = o .loop in
+    let a = o .before .before .before .before .args in
+    let more = listed-more (a .starts .now) (a .ends .now) (l .which) (l .i) (l .k) (l .inv .1) (c .is-met .result) (omega (arith, l .inv .3)) (c .is-met .ensures .0) in
+    (omega arith, more, listed-few (a .starts .now) (a .ends .now) _ _ _ more, length-set (l .which) (l .k) (l .i) ∙ l .inv .3)
 
 same-length : tie.Need-same-length Inv-loop μ-loop
-same-length c = let r = c .before .before in r .list-rest .kept .0 ∙ r .before .before .before .loop .inv .2
+same-length c = c .before .loop .inv .3
 
 returns : tie.Need-returns Inv-loop μ-loop
-returns c = c .before .before .list-rest .ensures
+returns c =
+    let l = c .before .loop in
+    let e : l .i ≡ c .before .before .before .before .before .args .m = omega arith in
+    rw e at (l .inv .1)
 
 pub list-met-spec : {M : Type 1} → statement M
 list-met-spec =
@@ -59,11 +75,17 @@ list-met-spec =
     Inv-loop
     μ-loop
     loop-holds
-    add-loop
-    list-four-requires
+    cast-which
+    mul-which
+    slice-write-which
+    mul-is-met
+    shared-slice-read-is-met
+    mul-is-met-2
+    shared-slice-read-is-met-2
+    is-met-requires
+    add-k
     add-i
     loop-less
     loop-again
-    list-rest-requires
     same-length
     returns)
