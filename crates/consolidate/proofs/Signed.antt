@@ -8,7 +8,7 @@ use native.Mathlib.Decide.{decLt}
 use lib.IntN.{ℤ, pos, negsuc, natAbs, subℕ, _+ℤ_, _-ℤ_, _*ℤ_}
 use lib.Signed.{nonNeg, mag, ltZ, leZ, quotZ}
 use lib.Dec.{T, leb→le, le→leb}
-use borrow.Author.Tests.{ltb-false, lt-ltb, le-ltb, le-leb}
+use borrow.Author.Tests.{ltb-false, leb-false, lt-ltb, le-ltb, le-leb}
 use Rattle.maps.proofs.Signed.{abs-neg}
 use Rattle.consolidate.specs.Modes.{ceil}
 
@@ -34,6 +34,12 @@ leZ-trans (pos a) (negsuc b) c h k = absurd h
 leZ-trans (negsuc a) b (pos c) h k = tt
 leZ-trans (negsuc a) (pos b) (negsuc c) h k = absurd k
 leZ-trans (negsuc a) (negsuc b) (negsuc c) h k = le→leb c a (omega (arith, leb→le b a h, leb→le c b k))
+
+pub leZ-ltZ : (a b : ℤ) → leZ b a ≡ false → T (ltZ a b)
+leZ-ltZ (pos a) (pos b) e = rw (lt-ltb a b (leb-false b a e)) tt
+leZ-ltZ (pos a) (negsuc b) e = let z : _≡_ {A = ℕ} 0 1 = cc in absurd (omega arith)
+leZ-ltZ (negsuc a) (pos b) e = tt
+leZ-ltZ (negsuc a) (negsuc b) e = rw (lt-ltb b a (leb-false a b e)) tt
 
 -- ---- the quotient
 

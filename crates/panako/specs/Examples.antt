@@ -32,7 +32,7 @@ use Rattle.hough.specs.Hough.{houghSum, houghPeak, merged, peakOffset, farSum, 
 use Rattle.panako_vote.specs.Settings.{normalised, withinLimits}
 use Rattle.panako_vote.specs.Grids.{binAt, gridOf}
 use Rattle.panako_vote.specs.Votes.{voteAtScale, voteOn}
-use Rattle.wang_judge.specs.Gates.{peakGates, gates, resultAt}
+use Rattle.gates.specs.Gates.{peakGates, gates, resultAt}
 use Rattle.bins.specs.Codes.{occupied, binsOf}
 use Rattle.panako_judge.specs.Judge.{seenOf, timeScaleOf, judgeBy}
 use Rattle.panako_judge.specs.Scheme.{beyond, votesOf, judge, panako}

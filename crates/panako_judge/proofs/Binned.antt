@@ -13,12 +13,12 @@ use borrow.Author.Tests.{eq-eqb, lt-ltb, le-ltb, lt-leb}
 use Rattle.lists.specs.Lists.{All}
 use Rattle.lists.proofs.Keep.{all-at}
 use Rattle.maps.proofs.Sums.{sum-cong}
-use Rattle.consolidate.proofs.Signed.{sub-dist}
+use Rattle.consolidate.proofs.Signed.{sub-dist, leZ-ltZ}
 use Rattle.consolidate.proofs.Spans.{le-shift}
 use Rattle.hough.specs.Hough.{scale, votes}
 use Rattle.hough.specs.Limits.{Bins}
-use Rattle.wang_judge.proofs.Peaks.{leZ-ltZ}
-use Rattle.panako_judge.specs.Judge.{middle, voteOfCode, panakoForm}
+use Rattle.panako_vote.specs.Words.{middle, voteOfCode}
+use Rattle.panako_judge.specs.Judge.{panakoForm}
 use Rattle.bins.specs.Codes.{occupied, votesAt, binsOf}
 use Rattle.bins.proofs.Occupied.{length-counts, occupied-all, occupied-few, key, keys-up, keys-held, bins-length, bins-at}
 

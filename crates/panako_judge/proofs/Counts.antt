@@ -7,7 +7,8 @@ use lib.ListN.{length}
 use Rattle.maps.specs.Lists.{countIf}
 use Rattle.bins.proofs.Occupied.{length-counts, occupied-same, bins-same}
 use Rattle.bins.proofs.Binned.{count-map}
-use Rattle.panako_judge.specs.Judge.{Vote, middle, codeOf, panakoForm, judgeBy}
+use Rattle.panako_vote.specs.Words.{Vote, middle, codeOf}
+use Rattle.panako_judge.specs.Judge.{panakoForm, judgeBy}
 use Rattle.panako_judge.specs.declared.PanakoQuery.{PanakoQuery}
 
 module _ (vs us : List Vote) (same : (p : Vote → Bool) → countIf p vs ≡ countIf p us) where

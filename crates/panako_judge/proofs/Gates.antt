@@ -13,10 +13,12 @@ use Rattle.matching.specs.Rates.{ratesAgree}
 use Rattle.matching.specs.Scores.{scoreOf}
 use Rattle.hough.specs.Hough.{scale, houghPeak, peakOffset, prominence}
 use Rattle.hough.specs.declared.Peak.{Peak}
-use Rattle.wang_judge.specs.Gates.{gates, resultAt, verdictOf}
-use Rattle.wang_judge.specs.declared.Verdict.{Verdict}
-use Rattle.wang_judge.proofs.Passing.{Judged}
-use Rattle.panako_judge.specs.Judge.{Vote, houghBins, binCount, Seen, seenOf, thresholdsOf, atPeak, timeScaleOf, resultOf, judgeBy}
+use Rattle.gates.specs.Gates.{gates, resultAt}
+use Rattle.query_rank.specs.Verdicts.{verdictOf}
+use Rattle.query_rank.specs.declared.Verdict.{Verdict}
+use Rattle.gates.proofs.Passing.{Judged}
+use Rattle.panako_vote.specs.Words.{Vote}
+use Rattle.panako_judge.specs.Judge.{houghBins, binCount, Seen, seenOf, thresholdsOf, atPeak, timeScaleOf, resultOf, judgeBy}
 use Rattle.panako_judge.specs.declared.PanakoQuery.{PanakoQuery}
 
 module _ (q : PanakoQuery) (l : List ℤ) (n : ℕ) where

@@ -13,8 +13,8 @@ use Rattle.panako_vote.specs.declared.Vote as of-pair
 use Rattle.panako_vote.specs.declared.Vote.the-variants.{Nothing, At}
 use Rattle.panako_vote.proofs.Limits.{accepted}
 use Rattle.panako_vote.proofs.Bounds.{pair-bounded}
-use Rattle.panako_judge.specs.Judge.{Vote}
-use Rattle.panako_judge.specs.Scheme.{Ask, settings, beyond, last, asList, votesOf}
+use Rattle.panako_vote.specs.Words.{Vote, asList}
+use Rattle.panako_judge.specs.Scheme.{Ask, settings, beyond, last, votesOf}
 
 -- what packing asks of a vote
 abbrev pub Packable : Vote → Type 0

@@ -18,10 +18,11 @@ use Rattle.bins.proofs.Occupied.{occupied-few, occupied-some, bins-length}
 use Rattle.bins.proofs.Binning.{codes-length, codes-each}
 use Rattle.few_bins.specs.Tally.{isFew, counted}
 use Rattle.hough.specs.Limits.{Bins}
-use Rattle.wang_judge.specs.declared.Verdict.{Verdict}
-use Rattle.wang_judge.proofs.Passing.{Weighed}
+use Rattle.query_rank.specs.declared.Verdict.{Verdict}
+use Rattle.gates.proofs.Passing.{Weighed}
 use Rattle.panako_judge.specs.Judge as votes
-use Rattle.panako_judge.specs.Judge.{middle, codeOf, panakoForm, binCount, seenOf, thresholdsOf, atPeak, resultOf}
+use Rattle.panako_vote.specs.Words.{middle, codeOf}
+use Rattle.panako_judge.specs.Judge.{panakoForm, binCount, seenOf, thresholdsOf, atPeak, resultOf}
 use Rattle.panako_judge.specs.Candidates.{voteIn, votesIn, Binned}
 use Rattle.panako_judge.specs.declared.PanakoQuery.{PanakoQuery}
 use Rattle.panako_judge.proofs.Codes.{code-back}

@@ -1,21 +1,13 @@
 -- A candidate's votes as they stand in the scratch, sorted, and what the code that judges it asks. Assumes nothing: these are definitions.
 use mathlib.Core.Path.{_≡_}
 use mathlib.Core.List.{List, map}
-use Prim.Native.Nat.{ℕ, _+_, _-_, _*_, _^_, _≤_, _<_}
-use lib.IntN.{ℤ, pos, _-ℤ_}
+use Prim.Native.Nat.{ℕ, _+_, _-_, _*_, _≤_, _<_}
+use lib.IntN.{ℤ}
 use lib.ListN.{length, take, drop}
 use Rattle.bins.specs.Codes.{codeIn, idIn, Group}
-use Rattle.panako_judge.specs.Judge.{Vote, codeOf, voteOfCode, panakoForm, houghBins, binCount}
+use Rattle.panako_vote.specs.Words.{Vote, voteOfCode}
+use Rattle.panako_judge.specs.Judge.{panakoForm, houghBins, binCount}
 use Rattle.panako_judge.specs.declared.PanakoQuery.{PanakoQuery}
-
--- ---- a vote as one word
-
--- 12 bits of id and 52 of code, 12 of them the scale bin: 64 bits, which are a word once 2^63 is taken off
-abbrev pub lowest : ℕ
-lowest = panakoForm .low
-
-abbrev pub wordOf : ℕ → Vote → ℤ
-wordOf id v = pos (id * 2 ^ 52 + codeOf v) -ℤ pos lowest
 
 -- the id and the vote of a word
 abbrev pub recordingOf : ℤ → ℕ

@@ -25,8 +25,9 @@ use Rattle.panako_vote.specs.Settings.{normalised, withinLimits}
 use Rattle.panako_vote.specs.Grids.{binAt, gridOf}
 use Rattle.panako_vote.specs.Votes.{voteAtScale, voteOn}
 use Rattle.model.specs.Fingerprints.{Hash}
-use Rattle.wang_judge.specs.Gates.{peakGates, gates, resultAt}
-use Rattle.panako_judge.specs.Judge.{Vote, seenOf, timeScaleOf, judgeBy}
+use Rattle.gates.specs.Gates.{peakGates, gates, resultAt}
+use Rattle.panako_vote.specs.Words.{Vote}
+use Rattle.panako_judge.specs.Judge.{seenOf, timeScaleOf, judgeBy}
 use Rattle.panako_judge.specs.Scheme.{Ask, beyond, votesOf, judge}
 
 -- what the result of a candidate says: votes, score bits, prominence bits, frames, ms, time scale bits

@@ -3,8 +3,8 @@
 use mathlib.Core.Bool.{true}
 use mathlib.Core.List.{List, map}
 use mathlib.Core.Option.{Option}
-use Prim.Native.Nat.{ℕ, _+_, _*_, _/_, _%_, _^_}
-use lib.IntN.{ℤ, pos, negℤ, natAbs, _+ℤ_}
+use Prim.Native.Nat.{ℕ}
+use lib.IntN.{ℤ}
 use lib.ListN.{length}
 use lib.Ieee.{Float, binary32, ofBits}
 use Rattle.bins.specs.Codes as bins
@@ -13,34 +13,18 @@ use Rattle.matching.specs.Scales.{binCentre, timeScale}
 use Rattle.matching.specs.Scores.{scoreOf}
 use Rattle.matching.specs.declared.MatchResult.{MatchResult}
 use Rattle.panako_vote.specs.Grids.{per}
+use Rattle.panako_vote.specs.Words.{Vote, middle, codeOf, lowest}
 use Rattle.panako_vote.specs.declared.PanakoMatchConfig.{PanakoMatchConfig}
 use Rattle.hough.specs.Hough.{scale, houghPeak, peakOffset, prominence}
 use Rattle.hough.specs.declared.Peak.{Peak}
-use Rattle.wang_judge.specs.Gates.{Thresholds, AtPeak, gates, resultAt, passing}
+use Rattle.gates.specs.Gates.{Thresholds, AtPeak, gates, resultAt, passing}
 use Rattle.panako_judge.specs.declared.PanakoQuery.{PanakoQuery}
-
--- "Panako vote": its scale bin and its offset in frames. The id is the candidate's.
-pub record Vote : Type 0 where
-  pub bin : ℕ
-  pub offset : ℤ
 
 -- ── the occupied bins ──
 
--- scale bin and offset as one number, which ascends in "(scale, offset) order": an offset lies in −2^39 .. 2^32
--- (panako_vote, proofs/Bounds.antt), so 2^39 more is a number of 40 bits
-abbrev pub middle : ℕ
-middle = 2 ^ 39
-
-abbrev pub codeOf : Vote → ℕ
-codeOf v = v .bin * 2 ^ 40 + natAbs (v .offset +ℤ pos middle)
-
--- the vote with a code
-abbrev pub voteOfCode : ℕ → Vote
-voteOfCode k = record { bin = k / 2 ^ 40; offset = negℤ (pos middle) +ℤ pos (k % 2 ^ 40) }
-
 -- a vote's word counts from −2^63 and is an id above 52 bits of code
 abbrev pub panakoForm : Form
-panakoForm = record { low = 2 ^ 63; bits = 0; size = 52; scaled = true }
+panakoForm = record { low = lowest; bits = 0; size = 52; scaled = true }
 
 -- the occupied bins' words, as `hough` has them, and how many bins there are
 abbrev pub houghBins : List Vote → List ℤ

@@ -1,6 +1,6 @@
 -- Panako's scheme: what the model asks of an index, for Panako. Definitions only. Assumes nothing.
 use mathlib.Core.Bool.{Bool, not}
-use mathlib.Core.List.{List, [], _∷_}
+use mathlib.Core.List.{List}
 use mathlib.Core.Option.{Option}
 use Prim.Native.Nat.{ℕ}
 use lib.ListN.{length, getD}
@@ -11,10 +11,9 @@ use Rattle.model.specs.Rows.{Row, anchor}
 use Rattle.model.specs.Query.{Scheme}
 use Rattle.panako_vote.specs.Settings.{normalised, withinLimits}
 use Rattle.panako_vote.specs.Votes.{pairVote}
+use Rattle.panako_vote.specs.Words.{Vote, asList}
 use Rattle.panako_vote.specs.declared.PanakoMatchConfig.{PanakoMatchConfig}
-use Rattle.panako_vote.specs.declared.Vote as of-pair
-use Rattle.panako_vote.specs.declared.Vote.the-variants.{Nothing, At}
-use Rattle.panako_judge.specs.Judge.{Vote, judgeBy}
+use Rattle.panako_judge.specs.Judge.{judgeBy}
 use Rattle.panako_judge.specs.declared.PanakoQuery.{PanakoQuery}
 
 -- a query's settings, as they come, and its rate
@@ -33,11 +32,6 @@ beyond a = not (withinLimits (settings a))
 -- a hash's times are t_anchor, t_b, t_c
 abbrev pub last : Hash → ℕ
 last h = getD (h .times) 2 0
-
--- none or one
-abbrev pub asList : of-pair.Vote → List Vote
-asList Nothing = []
-asList (At bin offset) = record { bin = bin; offset = offset } ∷ []
 
 -- the vote of a query hash h and a held hash g, if they have one
 unfoldable pub votesOf : Ask → Hash → Hash → List Vote

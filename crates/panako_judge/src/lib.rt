@@ -1,26 +1,23 @@
 // One candidate of a Panako query, judged from its sorted votes: the body of the loop over candidates in
 // `PanakoIndex::query` of the reference.
 ghost use mathlib.Core.Path.{_≡_};
-ghost use Prim.Native.Nat.{_+_, _*_, _≤_, _<_, _^_};
-ghost use lib.IntN.{pos, natAbs, _+ℤ_, _-ℤ_};
-ghost use lib.ListN.{length, set, take};
+ghost use Prim.Native.Nat.{_+_, _*_, _≤_, _<_};
+ghost use lib.ListN.{length, take};
 ghost use Rattle.maps.specs.Words.{SameOutside};
-ghost use Rattle.wang_judge.specs.Gates.{admits, peakGates, resultAt, passing, verdictOf};
+ghost use Rattle.query_rank.specs.Verdicts.{verdictOf};
+ghost use Rattle.gates.specs.Gates.{admits, peakGates, resultAt, passing};
 ghost use Rattle.few_bins.specs.Tally.{counted};
 ghost use Rattle.hough.specs.Hough.{scale, peakOffset};
 ghost use Rattle.hough.specs.Limits.{Bins};
-ghost use Rattle.panako_vote.specs.Votes.{InRange};
-ghost use Rattle.panako_judge.specs.Judge.{middle, binCount, seenOf, thresholdsOf, atPeak, timeScaleOf, resultOf, judgeBy};
-ghost use Rattle.panako_judge.specs.Candidates.{lowest, wordOf, votesIn, Candidate, Binned};
+ghost use Rattle.panako_judge.specs.Judge.{binCount, seenOf, thresholdsOf, atPeak, timeScaleOf, resultOf, judgeBy};
+ghost use Rattle.panako_judge.specs.Candidates.{votesIn, Candidate, Binned};
 use bins::Form;
 use hough::Peak;
 use matching::MatchResult;
+use panako_vote::LOWEST;
+use panako_vote::MIDDLE;
 use panako_vote::PanakoMatchConfig;
-use wang_judge::Verdict;
-
-pub const LOWEST: u64 = 0x8000_0000_0000_0000;
-
-const MIDDLE: i64 = 0x80_0000_0000;
+use query_rank::Verdict;
 
 // How the votes stand in words.
 const FORM: Form = Form {
@@ -35,44 +32,6 @@ pub struct PanakoQuery {
     pub cfg: PanakoMatchConfig,
     pub frames_per_sec: f32,
     pub q_len: usize,
-}
-
-// ---- a vote as a word
-
-// The offset counted from -2^39.
-fn place_of(offset: i64) -> u64
-    requires { ⌜ InRange offset ⌝ }
-    ensures { λ r. ⌜ (r ≡ natAbs (offset +ℤ pos middle)) × (r < 2 ^ 40) ⌝ }
-{
-    let up = offset + MIDDLE;
-    up as u64
-}
-
-// 12 bits of id, 12 of scale bin, 40 of place.
-fn pack(id: u64, bin: u64, place: u64) -> u64
-    requires { ⌜ (id < 2 ^ 12) × (bin < 2 ^ 12) × (place < 2 ^ 40) ⌝ }
-    ensures { λ r. ⌜ r ≡ id * 2 ^ 52 + (bin * 2 ^ 40 + place) ⌝ }
-{
-    (id << 52) + ((bin << 40) + place)
-}
-
-// x less 2^63.
-fn lowered(x: u64) -> i64
-    ensures { λ r. ⌜ r ≡ pos x -ℤ pos lowest ⌝ }
-{
-    if x < LOWEST {
-        let m = (LOWEST - 1 - x) as i64;
-        return -1 - m;
-    }
-    (x - LOWEST) as i64
-}
-
-// Stores a vote in word i.
-pub fn put_vote(s: &mut [i64], i: usize, id: u64, bin: u32, offset: i64)
-    requires { ⌜ (i < length (now s)) × (id < 2 ^ 12) × (bin < 2 ^ 12) × InRange offset ⌝ }
-    ensures { λ _. ⌜ now (s .exit) ≡ set (now (s .entry)) i (wordOf id (record { bin = bin; offset = offset })) ⌝ }
-{
-    s[i] = lowered(pack(id, maps::wide(bin), place_of(offset)));
 }
 
 // ---- the judge
@@ -103,7 +62,7 @@ fn result(
     let cfg = q.cfg;
     let frames = hough::panako_peak_offset(s, n, maps::wide(cfg.offset_tolerance_frames), p.at);
     let scale = time_scale_of(cfg, hough::scale_at(s, n, p.at));
-    wang_judge::result(score, p.votes, prominence, frames, fps, scale)
+    gates::result(score, p.votes, prominence, frames, fps, scale)
 }
 
 // Steps 3 and 4, of n bins.
@@ -136,7 +95,7 @@ fn admitted(q: PanakoQuery, fps: f32, g: usize) -> bool
     ensures { λ r. ⌜ r ≡ admits (q .«frames_per_sec») fps (q .cfg .«min_votes») g ⌝ }
 {
     let cfg = q.cfg;
-    wang_judge::admitted(q.frames_per_sec, fps, cfg.min_votes, g)
+    gates::admitted(q.frames_per_sec, fps, cfg.min_votes, g)
 }
 
 // A candidate: the g votes from word a on, in order, and its row's rate. Its bins are written from word `at` on.

@@ -13,14 +13,14 @@ use Rattle.bins.specs.Votes.{leadOf, Run}
 use Rattle.matching.specs.declared.MatchResult.{MatchResult}
 use Rattle.model.specs.Query.{trackBest}
 use Rattle.model.specs.Soundness.{rowWord}
-use Rattle.wang_judge.specs.declared.Verdict.{Verdict}
-use Rattle.wang_judge.specs.Gates.{verdictOf}
-use Rattle.query_laws.specs.Candidates.{resultIn}
+use Rattle.query_rank.specs.declared.Verdict.{Verdict}
+use Rattle.query_rank.specs.Verdicts.{verdictOf, resultIn}
 use Rattle.query_laws.proofs.Judged.{one-recording}
 use Rattle.query_laws.proofs.Turns.{result-of, word-same}
 use Rattle.panako_judge.specs.declared.PanakoQuery.{PanakoQuery}
 use Rattle.panako_judge.specs.Judge.{judgeBy}
-use Rattle.panako_judge.specs.Candidates.{lowest, recordingOf, votesIn, Binned}
+use Rattle.panako_vote.specs.Words.{lowest}
+use Rattle.panako_judge.specs.Candidates.{recordingOf, votesIn, Binned}
 use Rattle.panako_query.specs.Candidates.{reading, bestIn, Known, OneRecording, Alike}
 
 -- words that stay as they are, all of one recording, with their bins behind them

@@ -14,8 +14,7 @@ use Rattle.main_votes.specs.Main.{mainLead, others, mainOf}
 use Rattle.query_laws.specs.Candidates.{rowAt, judgedBy}
 use Rattle.query_laws.proofs.Main.{best-main}
 use Rattle.panako_judge.specs.declared.PanakoQuery.{PanakoQuery}
-use Rattle.panako_judge.specs.Judge.{Vote}
-use Rattle.panako_judge.specs.Candidates.{lowest}
+use Rattle.panako_vote.specs.Words.{Vote, lowest}
 use Rattle.panako_judge.proofs.Gates.{judged-few}
 use Rattle.panako_query.specs.Candidates.{reading, bestIn, mainIn}
 

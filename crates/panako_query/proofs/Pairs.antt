@@ -18,9 +18,9 @@ use Rattle.panako_vote.specs.declared.Vote.the-variants.{Nothing, At}
 use Rattle.panako_vote.proofs.Bounds.{vote-bounded}
 use Rattle.query_laws.proofs.Gathering.{Right}
 use Rattle.panako_judge.specs.declared.PanakoQuery.{PanakoQuery}
-use Rattle.panako_judge.specs.Judge.{Vote}
-use Rattle.panako_judge.specs.Scheme.{Ask, settings, asList, votesOf, panako}
-use Rattle.panako_judge.specs.Candidates.{recordingOf, voteIn, wordOf}
+use Rattle.panako_vote.specs.Words.{Vote, asList, wordOf}
+use Rattle.panako_judge.specs.Scheme.{Ask, settings, votesOf, panako}
+use Rattle.panako_judge.specs.Candidates.{recordingOf, voteIn}
 use Rattle.panako_judge.proofs.Codes.{packed-recording, packed-vote}
 use Rattle.panako_votes.specs.Gathered.{pairWords}
 use Rattle.panako_query.specs.Candidates.{reading}

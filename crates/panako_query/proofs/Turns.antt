@@ -12,13 +12,14 @@ use Rattle.bins.proofs.Above.{above-le}
 use Rattle.matching.specs.declared.MatchResult.{MatchResult}
 use Rattle.model.specs.Query.{trackBest}
 use Rattle.model.specs.Soundness.{rowWord}
-use Rattle.wang_judge.specs.declared.Verdict.{Verdict}
-use Rattle.wang_judge.specs.Gates.{verdictOf}
-use Rattle.query_laws.specs.Candidates.{Fair, Rising, resultIn}
+use Rattle.query_rank.specs.declared.Verdict.{Verdict}
+use Rattle.query_rank.specs.Verdicts.{verdictOf, resultIn}
+use Rattle.query_laws.specs.Candidates.{Fair, Rising}
 use Rattle.query_laws.proofs.Turns.{Judged, turn}
 use Rattle.panako_judge.specs.declared.PanakoQuery.{PanakoQuery}
 use Rattle.panako_judge.specs.Judge.{judgeBy}
-use Rattle.panako_judge.specs.Candidates.{lowest, recordingOf, votesIn, Candidate}
+use Rattle.panako_vote.specs.Words.{lowest}
+use Rattle.panako_judge.specs.Candidates.{recordingOf, votesIn, Candidate}
 use Rattle.panako_judge.proofs.Counts.{judged-same}
 use Rattle.panako_query.specs.Candidates.{reading, Limits, Known}
 

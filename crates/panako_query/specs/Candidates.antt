@@ -13,8 +13,9 @@ use Rattle.panako_vote.specs.Grids.{gridOf}
 use Rattle.main_votes.specs.Main.{mainOf}
 use Rattle.query_laws.specs.Candidates as of-reading
 use Rattle.panako_judge.specs.declared.PanakoQuery.{PanakoQuery}
-use Rattle.panako_judge.specs.Judge.{Vote, judgeBy}
-use Rattle.panako_judge.specs.Candidates.{lowest, recordingOf, voteIn, Binned}
+use Rattle.panako_vote.specs.Words.{Vote, lowest}
+use Rattle.panako_judge.specs.Judge.{judgeBy}
+use Rattle.panako_judge.specs.Candidates.{recordingOf, voteIn, Binned}
 use Rattle.panako_votes.specs.Gathered.{words, Packable}
 
 -- how the word of a vote is read, and a recording judged

@@ -15,7 +15,7 @@ ghost use Rattle.panako_judge.specs.Candidates.{votesIn};
 ghost use Rattle.panako_judge.specs.Scheme.{queryOf, panako};
 ghost use Rattle.panako_query.specs.Arguments.{queryWith};
 ghost use Rattle.panako_query.specs.Candidates.{bestIn, wordsIn, answerIn, mainIn, Limits, Known, Votes, OneRecording, Alike, Posted};
-use panako_judge::LOWEST;
+use panako_vote::LOWEST;
 use panako_judge::PanakoQuery;
 use panako_vote::PanakoMatchConfig;
 use panako_vote::ScaleGrid;
@@ -33,7 +33,7 @@ fn best_of(s: &mut [i64], v: usize, refs: &[u32], q: PanakoQuery) -> Best
         let e = bins::run_end(s, i, v, LOWEST, 52);
         let id = bins::lead_at(s, i, LOWEST, 52);
         let rate = rows::row_word(refs, id as usize, 0);
-        best = query_laws::keep(
+        best = query_rank::keep(
             best,
             id as u32,
             panako_judge::judge(s, i, e - i, 2 * v, q, rate),
@@ -78,7 +78,7 @@ fn best_of_few(s: &[i64], v: usize, n: usize, refs: &[u32], q: PanakoQuery) -> B
     let id = bins::lead_at(s, 0, LOWEST, 52);
     let j = id as usize;
     let rate = rows::row_word(refs, j, 0);
-    query_laws::keep(
+    query_rank::keep(
         Best::Nothing,
         id as u32,
         panako_judge::judge_binned(s, v, 2 * v, n, q, rate),

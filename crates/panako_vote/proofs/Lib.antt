@@ -3,4 +3,5 @@ pub mod Bins
 pub mod Pairs
 pub mod Limits
 pub mod Bounds
+pub mod Words
 pub mod Examples

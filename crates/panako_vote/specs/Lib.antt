@@ -2,3 +2,4 @@
 pub mod Settings
 pub mod Grids
 pub mod Votes
+pub mod Words

@@ -1,15 +1,18 @@
 // The settings of a Panako query and the vote of one pair of a query hash and a posting:
 // `normalize_config` of the reference's `panako.rs`, refusal 4, and the inner loop of
-// `PanakoIndex::query`.
+// `PanakoIndex::query`; and a vote as one word.
 ghost use mathlib.Core.Path.{_≡_};
 ghost use mathlib.Core.Bool.{cond};
-ghost use Prim.Native.Nat.{_-_};
+ghost use Prim.Native.Nat.{_+_, _-_, _*_, _<_, _^_};
+ghost use lib.IntN.{pos, natAbs, _+ℤ_, _-ℤ_};
+ghost use lib.ListN.{length, set};
 ghost use lib.Ieee.{lt};
 ghost use lib.Ieee.Scale.{finite};
 ghost use Rattle.floats.specs.Selection.{zero};
 ghost use Rattle.panako_vote.specs.Settings.{ascending, scaleBins, normalised, withinLimits, Accepted};
 ghost use Rattle.panako_vote.specs.Grids.{binAt, gridOf, Limited};
-ghost use Rattle.panako_vote.specs.Votes.{span, spanRatio, voteOn, isVote, Bounded, checkedVote};
+ghost use Rattle.panako_vote.specs.Votes.{span, spanRatio, voteOn, isVote, InRange, Bounded, checkedVote};
+ghost use Rattle.panako_vote.specs.Words.{middle, lowest, wordOf};
 
 // The settings that the index uses.
 pub struct PanakoMatchConfig {
@@ -191,4 +194,47 @@ pub fn checked_vote(
     } else {
         CheckedVote::Refused
     }
+}
+
+// ---- a vote as a word
+
+// What a word is less than its number, and what an offset's place is more than the offset.
+pub const LOWEST: u64 = 0x8000_0000_0000_0000;
+
+pub const MIDDLE: i64 = 0x80_0000_0000;
+
+// The offset counted from -2^39.
+fn place_of(offset: i64) -> u64
+    requires { ⌜ InRange offset ⌝ }
+    ensures { λ r. ⌜ (r ≡ natAbs (offset +ℤ pos middle)) × (r < 2 ^ 40) ⌝ }
+{
+    let up = offset + MIDDLE;
+    up as u64
+}
+
+// 12 bits of id, 12 of scale bin, 40 of place.
+fn pack(id: u64, bin: u64, place: u64) -> u64
+    requires { ⌜ (id < 2 ^ 12) × (bin < 2 ^ 12) × (place < 2 ^ 40) ⌝ }
+    ensures { λ r. ⌜ r ≡ id * 2 ^ 52 + (bin * 2 ^ 40 + place) ⌝ }
+{
+    (id << 52) + ((bin << 40) + place)
+}
+
+// x less 2^63.
+fn lowered(x: u64) -> i64
+    ensures { λ r. ⌜ r ≡ pos x -ℤ pos lowest ⌝ }
+{
+    if x < LOWEST {
+        let m = (LOWEST - 1 - x) as i64;
+        return -1 - m;
+    }
+    (x - LOWEST) as i64
+}
+
+// Stores a vote in word i.
+pub fn put_vote(s: &mut [i64], i: usize, id: u64, bin: u32, offset: i64)
+    requires { ⌜ (i < length (now s)) × (id < 2 ^ 12) × (bin < 2 ^ 12) × InRange offset ⌝ }
+    ensures { λ _. ⌜ now (s .exit) ≡ set (now (s .entry)) i (wordOf id (record { bin = bin; offset = offset })) ⌝ }
+{
+    s[i] = lowered(pack(id, maps::wide(bin), place_of(offset)));
 }

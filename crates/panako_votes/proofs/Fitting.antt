@@ -17,9 +17,8 @@ use Rattle.panako_vote.specs.Votes.{voteOn}
 use Rattle.panako_vote.specs.declared.ScaleGrid.{ScaleGrid}
 use Rattle.panako_vote.specs.declared.Vote as of-pair
 use Rattle.panako_vote.specs.declared.Vote.the-variants.{Nothing, At}
-use Rattle.query_laws.specs.Gathered.{wordsBy, wordsOf, wordsFrom}
-use Rattle.panako_judge.specs.Scheme.{asList}
-use Rattle.panako_judge.specs.Candidates.{wordOf}
+use Rattle.query_search.specs.Gathered.{wordsBy, wordsOf, wordsFrom}
+use Rattle.panako_vote.specs.Words.{asList, wordOf}
 use Rattle.panako_votes.specs.Gathered.{pairWords, voteCount}
 
 one-at-most : (id : ℕ) (v : of-pair.Vote) → length (map (wordOf id) (asList v)) ≤ 1

@@ -20,7 +20,7 @@ use Rattle.maps.proofs.Sums.{sum-next, sum-mono, sum-under, sum-zero, keep-le}
 use Rattle.query_search.specs.Starts.{Starts, Ends, Sought}
 use Rattle.query_search.proofs.Meeting.{under-many}
 use Rattle.panako_vote.specs.declared.ScaleGrid.{ScaleGrid}
-use Rattle.query_laws.specs.Gathered.{wordsBy}
+use Rattle.query_search.specs.Gathered.{wordsBy}
 use Rattle.panako_votes.specs.Listed.{metTo, Listed}
 use Rattle.panako_votes.proofs.Walks.{before, at, before-none, before-more, put-hash, longer, before-longer}
 

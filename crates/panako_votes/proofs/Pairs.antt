@@ -14,9 +14,7 @@ use Rattle.panako_vote.specs.Votes.{voteOn, isVote, InRange, Bounded}
 use Rattle.panako_vote.specs.declared.ScaleGrid.{ScaleGrid}
 use Rattle.panako_vote.specs.declared.Vote as of-pair
 use Rattle.panako_vote.specs.declared.Vote.the-variants.{Nothing, At}
-use Rattle.panako_judge.specs.Judge.{Vote}
-use Rattle.panako_judge.specs.Scheme.{asList}
-use Rattle.panako_judge.specs.Candidates.{wordOf}
+use Rattle.panako_vote.specs.Words.{Vote, asList, wordOf}
 use Rattle.panako_votes.specs.Gathered.{wordsWith}
 
 pub one-vote : (id : ℕ) (v : of-pair.Vote) → isVote v ≡ true → 1 ≡ length (map (wordOf id) (asList v))

@@ -14,8 +14,8 @@ use Rattle.maps.specs.Entries.{firstAt}
 use Rattle.maps.proofs.Entries.{first-le, part-length, part-entries}
 use Rattle.query_search.proofs.Meeting.{under-many}
 use Rattle.panako_vote.specs.declared.ScaleGrid.{ScaleGrid}
-use Rattle.query_laws.specs.Gathered.{wordsOf}
-use Rattle.query_laws.proofs.Walks.{part-many, given-none, given-count, given-longer, firsts, firsts-all, firsts-none, firsts-more, firsts-longer}
+use Rattle.query_search.specs.Gathered.{wordsOf}
+use Rattle.query_search.proofs.Walks.{part-many, given-none, given-count, given-longer, firsts, firsts-all, firsts-none, firsts-more, firsts-longer}
 use Rattle.panako_votes.specs.Gathered.{wordsWith, pairWords, words, wordsOn}
 
 -- ---- the first query hashes

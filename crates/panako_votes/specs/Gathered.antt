@@ -9,10 +9,8 @@ use Rattle.query_search.specs.Starts.{Sought}
 use Rattle.panako_vote.specs.Grids.{Limited}
 use Rattle.panako_vote.specs.Votes.{voteOn}
 use Rattle.panako_vote.specs.declared.ScaleGrid.{ScaleGrid}
-use Rattle.query_laws.specs.Gathered.{wordsBy, Pairing, wordsFrom, Ids}
-use Rattle.panako_judge.specs.Judge.{Vote}
-use Rattle.panako_judge.specs.Scheme.{asList}
-use Rattle.panako_judge.specs.Candidates.{wordOf}
+use Rattle.query_search.specs.Gathered.{wordsBy, Pairing, wordsFrom, Ids}
+use Rattle.panako_vote.specs.Words.{Vote, asList, wordOf}
 
 -- the votes, none or one, of a query hash with t_anchor qa and t_c qc and the posting e; their words
 abbrev pub votesWith : ScaleGrid → ℕ → ℕ → List ℕ → List Vote

@@ -11,7 +11,7 @@ ghost use Rattle.maps.specs.Sums.{when};
 ghost use Rattle.maps.specs.Entries.{firstAt};
 ghost use Rattle.query_search.specs.Starts.{Starts, Ends, Sought};
 ghost use Rattle.panako_vote.specs.Grids.{Limited};
-ghost use Rattle.query_laws.specs.Gathered.{Ids};
+ghost use Rattle.query_search.specs.Gathered.{Ids};
 ghost use Rattle.panako_votes.specs.Gathered.{wordsWith, words, voteCount, wordsOn, Packable};
 ghost use Rattle.panako_votes.specs.Listed.{Listed};
 use panako_vote::ScaleGrid;
@@ -109,7 +109,7 @@ fn put_pair(
     match panako_vote::pair_vote(g, qa, qc, part[k + 2], part[k + 4]) {
         Vote::Nothing => at,
         Vote::At { bin, offset } => {
-            panako_judge::put_vote(s, at, id, bin, offset);
+            panako_vote::put_vote(s, at, id, bin, offset);
             at + 1
         }
     }

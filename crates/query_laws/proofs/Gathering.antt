@@ -17,7 +17,7 @@ use Rattle.model.specs.Index.{Posting, ofId}
 use Rattle.model.specs.Index as index
 use Rattle.model.specs.Words.{readPosting}
 use Rattle.model.specs.Query.{Scheme, gather}
-use Rattle.query_laws.specs.Gathered.{found, wordsBy, Pairing, wordsFrom}
+use Rattle.query_search.specs.Gathered.{found, wordsBy, Pairing, wordsFrom}
 use Rattle.query_laws.specs.Candidates.{Reading, ofRecording, votesOf}
 
 module _ (S : Scheme) (R : Reading (S .Vote)) (a : S .Ask) (pair : Pairing) where

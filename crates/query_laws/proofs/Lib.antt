@@ -1,6 +1,5 @@
 -- Laws of a query's votes and candidates, of either index.
 pub mod Lists
-pub mod Walks
 pub mod Gathering
 pub mod Ranks
 pub mod Judged

@@ -22,7 +22,7 @@ use Rattle.model.specs.Soundness.{rowWord, soundWords}
 use Rattle.model.proofs.Stores.{references-long, postings-long, stopped-long, sound-facts}
 use Rattle.model.proofs.Read.{rows-long, live-row}
 use Rattle.model.proofs.Best.{best-ext}
-use Rattle.query_laws.specs.Gathered.{Pairing, wordsFrom}
+use Rattle.query_search.specs.Gathered.{Pairing, wordsFrom}
 use Rattle.query_laws.specs.Candidates.{Reading, rowAt, votesOf, judgedBy, candidateIn, bestIn, answerIn}
 use Rattle.query_laws.proofs.Lists.{some-kept}
 use Rattle.query_laws.proofs.Gathering.{RightAll, votes-are, votes-many, gather-none}

@@ -18,7 +18,7 @@ use Rattle.model.specs.Run.{runQuery}
 use Rattle.query_rank.specs.Answers.{scratchAfter}
 use Rattle.query_refusals.specs.Early.{wholeVotes, earlyRefusal}
 use Rattle.query_refusals.proofs.Early.{Passed, passed, refused-early, query-is}
-use Rattle.query_laws.specs.Gathered.{Pairing, wordsFrom}
+use Rattle.query_search.specs.Gathered.{Pairing, wordsFrom}
 use Rattle.query_laws.specs.Candidates.{Reading, answerIn}
 use Rattle.query_laws.proofs.Gathering.{RightAll}
 use Rattle.query_laws.proofs.Meaning.{answer-is}

@@ -15,9 +15,9 @@ use Rattle.maps.proofs.Entries.{scale-le}
 use Rattle.bins.specs.Votes.{Run}
 use Rattle.matching.specs.declared.MatchResult.{MatchResult}
 use Rattle.model.specs.Query.{trackBest}
-use Rattle.wang_judge.specs.declared.Verdict.{Verdict}
-use Rattle.wang_judge.specs.Gates.{verdictOf}
-use Rattle.query_laws.specs.Candidates.{Reading, rowAt, resultIn, judgedBy, candidateIn, bestIn, recordingAt, Rising, Votes}
+use Rattle.query_rank.specs.declared.Verdict.{Verdict}
+use Rattle.query_rank.specs.Verdicts.{verdictOf, resultIn}
+use Rattle.query_laws.specs.Candidates.{Reading, rowAt, judgedBy, candidateIn, bestIn, recordingAt, Rising, Votes}
 use Rattle.query_laws.proofs.Ranks.{best-none, best-more}
 use Rattle.query_laws.proofs.Judged.{judged-some}
 use Rattle.query_laws.proofs.Groups.{later-none, own-part, other-same}

@@ -15,8 +15,6 @@ use Rattle.model.specs.Rows.{Row}
 use Rattle.model.specs.Query.{bestBelow}
 use Rattle.model.specs.Calls.{Answer, refused, answerOf}
 use Rattle.model.specs.Soundness.{rowWord}
-use Rattle.wang_judge.specs.declared.Verdict.{Verdict}
-use Rattle.wang_judge.specs.declared.Verdict.the-variants.{Barred, Passed}
 
 -- how an index reads the word of a vote, and judges a recording by its row and its votes
 pub record Reading (Vote : Type 0) : Type 0 where
@@ -27,11 +25,6 @@ pub record Reading (Vote : Type 0) : Type 0 where
 -- the row of recording j
 abbrev pub rowAt : List ℕ → ℕ → Row
 rowAt rs j = record { rate = rowWord rs j 0; rmax = rowWord rs j 1 }
-
--- the result in a verdict
-abbrev pub resultIn : Verdict → Option MatchResult
-resultIn Barred = none
-resultIn (Passed r) = some r
 
 module _ {Vote : Type 0} (R : Reading Vote) where
   -- the words of recording j; its votes

@@ -1,3 +1,2 @@
--- The words of a query's votes, and its candidates from them.
-pub mod Gathered
+-- The candidates of a query, from the words of its votes.
 pub mod Candidates

@@ -1,2 +1,3 @@
--- The best candidate of a query, its answer, and what it leaves of the scratch.
+-- The verdict on a candidate; the best candidate of a query, its answer, and what it leaves of the scratch.
+pub mod Verdicts
 pub mod Answers

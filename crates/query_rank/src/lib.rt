@@ -1,10 +1,17 @@
-// The best of a query's candidates, kept one by one, and the query's answer.
+// The verdicts on a query's candidates, one by one, the best of them, and the query's answer.
 ghost use mathlib.Core.Path.{_≡_};
 ghost use mathlib.Core.Option.{some};
 ghost use Rattle.model.specs.Query.{trackBest};
 ghost use Rattle.model.specs.Calls.{answerOf};
+ghost use Rattle.query_rank.specs.Verdicts.{resultIn};
 ghost use Rattle.query_rank.specs.Answers.{bestSoFar, findingAnswer};
 use matching::MatchResult;
+
+// A candidate that a gate bars, or its result.
+pub enum Verdict {
+    Barred,
+    Passed(MatchResult),
+}
 
 // The best candidate so far: its id and its result.
 pub enum Best {
@@ -20,7 +27,7 @@ pub enum Finding {
 }
 
 // A candidate comes next: it becomes the best where none stands or where it ranks above.
-pub fn track_best(best: Best, id: u32, result: MatchResult) -> Best
+fn track_best(best: Best, id: u32, result: MatchResult) -> Best
     ensures { λ r. ⌜ bestSoFar r ≡ trackBest (bestSoFar best) id (some result) ⌝ }
 {
     match best {
@@ -31,6 +38,16 @@ pub fn track_best(best: Best, id: u32, result: MatchResult) -> Best
             }
             Best::At(first, old)
         }
+    }
+}
+
+// A candidate's verdict comes next.
+pub fn keep(best: Best, id: u32, verdict: Verdict) -> Best
+    ensures { λ r. ⌜ bestSoFar r ≡ trackBest (bestSoFar best) id (resultIn verdict) ⌝ }
+{
+    match verdict {
+        Verdict::Barred => best,
+        Verdict::Passed(result) => track_best(best, id, result),
     }
 }
 

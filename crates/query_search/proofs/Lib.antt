@@ -1,4 +1,5 @@
--- Laws of the search for all hashes together.
+-- Laws of the search for all hashes together, and of the walks over the postings that it finds.
 pub mod Steps
 pub mod Levels
 pub mod Meeting
+pub mod Walks

@@ -1,2 +1,3 @@
--- Where the postings of each query hash begin.
+-- Where the postings of each query hash begin and end; the words that are gathered with them.
 pub mod Starts
+pub mod Gathered

@@ -29,7 +29,7 @@ use Rattle.model.specs.Calls.{insertTests, plainTests, queryTests, scratchListe
 use Rattle.model.specs.Words.{sizesOf, sizesListed, slicesListed, rowEntries, write, readIndex}
 use Rattle.model.specs.Soundness.{countsFit, liveWord, stoppedStep, deadRow, otherEntry, vacantEntry, deadFine, rateFine, liveId, postingLive, anchorFine, rmaxFine, otherKey, keyUnstopped, entryUnused, soundTests, soundWords}
 use Rattle.model.specs.Run.{storeOf, runInsert, runRemove, runQuery}
-use Rattle.wang_judge.specs.Gates.{peakGates, gates, resultAt}
+use Rattle.gates.specs.Gates.{peakGates, gates, resultAt}
 use Rattle.wang_judge.specs.Judge.{modeWithin, peakOf, distinct, seenOf, judgeBy}
 use Rattle.wang_judge.specs.Scheme.{beyond, judge}
 use Rattle.sheet_text.specs.Bytes.{wordsOf, decimalIn, decimal, hexDigits}

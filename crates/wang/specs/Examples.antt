@@ -28,7 +28,7 @@ use Rattle.model.specs.Soundness.{countsFit, liveWord, stoppedStep, deadRow, ot
 use Rattle.model.specs.Run.{storeOf, runBuild, runInsert, runRemove, runQuery}
 use Rattle.model.specs.History.{leaves}
 use Rattle.model.specs.Changes.{rate, Material, allRight}
-use Rattle.wang_judge.specs.Gates.{peakGates, gates, resultAt}
+use Rattle.gates.specs.Gates.{peakGates, gates, resultAt}
 use Rattle.wang_judge.specs.Judge.{modeWithin, peakOf, distinct, seenOf, judgeBy}
 use Rattle.wang_judge.specs.Scheme.{beyond, judge, wang}
 

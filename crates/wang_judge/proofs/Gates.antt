@@ -15,12 +15,12 @@ use Rattle.consolidate.specs.Box.{boxPeak}
 use Rattle.consolidate.specs.Limits.{Span}
 use Rattle.consolidate.specs.declared.Peak.{Peak}
 use Rattle.consolidate.proofs.Facts.{midpoint, midpoint-le}
-use Rattle.wang_judge.specs.Gates.{verdictOf}
+use Rattle.query_rank.specs.Verdicts.{verdictOf}
 use Rattle.wang_judge.specs.Judge.{Counts, anyVote, seenOf, thresholdsOf, atPeak, resultOf, judgeBy}
 use Rattle.wang_judge.specs.Candidates.{countsIn, seenIn, Counted}
 use Rattle.wang_judge.specs.declared.WangQuery.{WangQuery}
-use Rattle.wang_judge.specs.declared.Verdict.{Verdict}
-use Rattle.wang_judge.proofs.Passing.{Judged}
+use Rattle.query_rank.specs.declared.Verdict.{Verdict}
+use Rattle.gates.proofs.Passing.{Judged}
 use Rattle.wang_judge.proofs.Words.{counts-tell, counts-few}
 use Rattle.wang_judge.proofs.Peaks.{peak-is, span-of, sums, peak-le, peak-under, peak-centre}
 

@@ -2,5 +2,4 @@
 pub mod Words
 pub mod Modes
 pub mod Peaks
-pub mod Passing
 pub mod Gates

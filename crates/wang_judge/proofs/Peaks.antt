@@ -24,6 +24,7 @@ use Rattle.consolidate.specs.Limits.{Span}
 use Rattle.consolidate.specs.Windows.{withinℕ}
 use Rattle.consolidate.specs.declared.Mode.{Mode}
 use Rattle.consolidate.proofs.Facts.{midpoint, votes-total, votes-under, centre-is}
+use Rattle.consolidate.proofs.Signed.{leZ-ltZ}
 use Rattle.consolidate.proofs.Spans.{le-shift, within-is}
 use Rattle.wang_judge.specs.Judge.{Vote, Counts, near, votesAt, modeWithin, peakOf, distinct}
 use Rattle.wang_judge.specs.Candidates.{countsIn}
@@ -41,12 +42,6 @@ at-is low x y = within-is low 0 x x y ∙ test (eqb y x) (λ e. equal (eqb-true 
     other : (y ≡ x → ⊥) → Dec (y < x) → withinℕ 0 x x y ≡ false
     other n (yes p) = rw (lt-leb x (y + 0) (omega arith)) refl
     other n (no p) = rw (lt-leb y (x + 0) (omega arith)) (and-false (leb x (y + 0)))
-
-pub leZ-ltZ : (a b : ℤ) → leZ b a ≡ false → T (ltZ a b)
-leZ-ltZ (pos a) (pos b) e = rw (lt-ltb a b (leb-false b a e)) tt
-leZ-ltZ (pos a) (negsuc b) e = let z : _≡_ {A = ℕ} 0 1 = cc in absurd (omega arith)
-leZ-ltZ (negsuc a) (pos b) e = tt
-leZ-ltZ (negsuc a) (negsuc b) e = rw (lt-ltb b a (leb-false a b e)) tt
 
 -- a number between two is no larger than the larger of them
 between-abs : (a d b : ℤ) → T (leZ a d) → T (leZ d b) → natAbs d ≤ max (natAbs a) (natAbs b)

@@ -19,7 +19,7 @@ use Rattle.consolidate.specs.Modes.{mode}
 use Rattle.consolidate.specs.Box.{peakOver}
 use Rattle.model.specs.Fingerprints.{Hash}
 use Rattle.model.specs.Rows.{Row, largestAnchor}
-use Rattle.wang_judge.specs.Gates.{peakGates, gates, resultAt}
+use Rattle.gates.specs.Gates.{peakGates, gates, resultAt}
 use Rattle.wang_judge.specs.Judge.{Vote, modeWithin, peakOf, distinct, seenOf, judgeBy}
 use Rattle.wang_judge.specs.Scheme.{Ask, voteOf, judge}
 

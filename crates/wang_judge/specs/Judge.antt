@@ -15,7 +15,7 @@ use Rattle.consolidate.specs.Box.{within, peakOver}
 use Rattle.consolidate.specs.declared.Mode.{Mode}
 use Rattle.consolidate.specs.declared.Peak.{Peak}
 use Rattle.model.specs.Rows.{Row}
-use Rattle.wang_judge.specs.Gates.{Thresholds, AtPeak, gates, resultAt, passing}
+use Rattle.gates.specs.Gates.{Thresholds, AtPeak, gates, resultAt, passing}
 use Rattle.wang_judge.specs.declared.WangQuery.{WangQuery}
 
 -- "Wang vote: id, δ = t_anchor of the posting − t_anchor of the query hash, position of the query hash". The id is the candidate's.

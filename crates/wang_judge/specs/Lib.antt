@@ -1,5 +1,4 @@
--- The gates, which Panako's judge has too; the judge of one Wang candidate and the scheme; worked examples; then what the code says of its words.
-pub mod Gates
+-- The judge of one Wang candidate and the scheme; worked examples; then what the code says of its words.
 pub mod Judge
 pub mod Scheme
 pub mod Examples

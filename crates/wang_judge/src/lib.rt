@@ -10,14 +10,14 @@ ghost use Rattle.maps.specs.Words.{SameOutside};
 ghost use Rattle.matching.specs.Scores.{scoreOf};
 ghost use Rattle.consolidate.specs.Box.{boxPeak};
 ghost use Rattle.consolidate.specs.Limits.{Span};
-ghost use Rattle.wang_judge.specs.Gates.{admits, peakGates, resultAt, passing, verdictOf};
+ghost use Rattle.query_rank.specs.Verdicts.{verdictOf};
+ghost use Rattle.gates.specs.Gates.{peakGates, passing};
 ghost use Rattle.wang_judge.specs.Judge.{distinct, thresholdsOf, atPeak, resultOf, judgeBy};
 ghost use Rattle.wang_judge.specs.Scheme.{configOf};
 ghost use Rattle.wang_judge.specs.Candidates.{countsIn, seenIn, Candidate, Counted};
 use bins::Form;
 use consolidate::Peak;
-use matching::MatchResult;
-use matching::TimeOffset;
+use query_rank::Verdict;
 
 // The settings that the index uses.
 pub struct WangMatchConfig {
@@ -50,12 +50,6 @@ pub struct WangQuery {
     pub frames_per_sec: f32,
     pub q_max: u32,
     pub q_len: usize,
-}
-
-// A candidate that a gate bars, or its result.
-pub enum Verdict {
-    Barred,
-    Passed(MatchResult),
 }
 
 // The sweep over the n bins from word `at` on, from -q_max to r_max.
@@ -91,36 +85,6 @@ fn score_at(s: &[i64], a: usize, g: usize, q: WangQuery, centre: i64) -> f32
     matching::score(n, q.q_len as u64)
 }
 
-// The result of a candidate at its peak.
-pub fn result(
-    score: f32,
-    votes: u64,
-    prominence: f32,
-    frames: i64,
-    fps: f32,
-    time_scale: f32,
-) -> MatchResult
-    requires { ⌜ votes < 2 ^ 32 ⌝ }
-    ensures { λ r. ⌜ r ≡ resultAt (record { votes = votes; prominence = prominence; score = score }) frames fps «time_scale» ⌝ }
-{
-    let offset = TimeOffset::from_frames(frames, fps);
-    MatchResult {
-        is_match: true,
-        score,
-        votes: votes as u32,
-        prominence,
-        offset,
-        time_scale,
-    }
-}
-
-// Steps 1 and 2: whether a candidate's rate agrees with the query's, and whether its votes are enough.
-pub fn admitted(rate: f32, fps: f32, min_votes: u32, votes: usize) -> bool
-    ensures { λ r. ⌜ r ≡ admits rate fps «min_votes» votes ⌝ }
-{
-    matching::frames_per_sec_compatible(rate, fps) & (maps::wide(min_votes) <= votes as u64)
-}
-
 // Steps 3 and 4, of a candidate whose n bins stand from word `at` on.
 fn weigh(
     s: &[i64],
@@ -151,7 +115,7 @@ fn weigh(
     if matching::below_threshold(score, cfg.min_score) {
         return Verdict::Barred;
     }
-    Verdict::Passed(result(score, votes, prominence, peak.mode, fps, 1.0))
+    Verdict::Passed(gates::result(score, votes, prominence, peak.mode, fps, 1.0))
 }
 
 // A candidate: the g votes from word a on, in order, and its row's rate and r_max. Its bins are written from word `at` on.
@@ -170,7 +134,7 @@ pub fn judge(
 {
     let cfg = q.cfg;
     let fps = floats::f32_from_bits(rate);
-    if !admitted(q.frames_per_sec, fps, cfg.min_votes, g) {
+    if !gates::admitted(q.frames_per_sec, fps, cfg.min_votes, g) {
         return Verdict::Barred;
     }
     let form = Form {

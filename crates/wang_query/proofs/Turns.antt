@@ -13,11 +13,11 @@ use Rattle.matching.specs.declared.MatchResult.{MatchResult}
 use Rattle.model.specs.Query.{trackBest}
 use Rattle.model.specs.Soundness.{rowWord}
 use Rattle.wang_judge.specs.declared.WangQuery.{WangQuery}
-use Rattle.wang_judge.specs.declared.Verdict.{Verdict}
+use Rattle.query_rank.specs.declared.Verdict.{Verdict}
 use Rattle.wang_judge.specs.Judge.{judgeBy}
-use Rattle.wang_judge.specs.Gates.{verdictOf}
+use Rattle.query_rank.specs.Verdicts.{verdictOf, resultIn}
 use Rattle.wang_judge.specs.Candidates.{countsIn, Candidate}
-use Rattle.query_laws.specs.Candidates.{Fair, Rising, resultIn}
+use Rattle.query_laws.specs.Candidates.{Fair, Rising}
 use Rattle.query_laws.proofs.Turns.{Judged, turn}
 use Rattle.wang_query.specs.Candidates.{reading, Limits, Spanned}
 

@@ -28,7 +28,7 @@ fn best_of(s: &mut [i64], v: usize, refs: &[u32], q: WangQuery) -> Best
         let j = id as usize;
         let rate = rows::row_word(refs, j, 0);
         let r_max = rows::row_word(refs, j, 1);
-        best = query_laws::keep(
+        best = query_rank::keep(
             best,
             id as u32,
             wang_judge::judge(s, i, e - i, 2 * v, q, rate, r_max),

@@ -21,9 +21,9 @@ use Rattle.maps.proofs.Entries.{first-splits, under-part, part-entries}
 use Rattle.bins.specs.Votes.{packed}
 use Rattle.query_search.specs.Starts.{met}
 use Rattle.query_search.proofs.Meeting.{under-many}
-use Rattle.query_laws.specs.Gathered.{found, wordsBy, wordsOf, wordsFrom}
-use Rattle.query_laws.proofs.Walks.{put-more, firsts}
-use Rattle.query_laws.proofs.Walks as walks
+use Rattle.query_search.specs.Gathered.{found, wordsBy, wordsOf, wordsFrom}
+use Rattle.query_search.proofs.Walks.{put-more, firsts}
+use Rattle.query_search.proofs.Walks as walks
 use Rattle.wang_votes.specs.Gathered.{voteWord, wordWith, pairWord, wordsOn}
 
 -- ---- the words of a part, written one after the other

@@ -7,7 +7,7 @@ use lib.ListN.{getD}
 use Rattle.lists.specs.Entries.{entries}
 use Rattle.bins.specs.Votes.{packed}
 use Rattle.query_search.specs.Starts.{Sought}
-use Rattle.query_laws.specs.Gathered.{wordsBy, Pairing, wordsFrom, Ids}
+use Rattle.query_search.specs.Gathered.{wordsBy, Pairing, wordsFrom, Ids}
 
 -- the vote of posting e with the query hash at position q, whose anchor is `shift` below the largest query anchor: the place counts
 -- from the low end of the span

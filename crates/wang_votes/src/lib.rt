@@ -11,7 +11,7 @@ ghost use Rattle.lists.specs.Entries.{entries, entryAt, keyOf, keysAscend};
 ghost use Rattle.maps.specs.Entries.{firstAt};
 ghost use Rattle.bins.specs.Votes.{packed};
 ghost use Rattle.query_search.specs.Starts.{Starts, Ends, met};
-ghost use Rattle.query_laws.specs.Gathered.{Ids};
+ghost use Rattle.query_search.specs.Gathered.{Ids};
 ghost use Rattle.wang_votes.specs.Gathered.{voteWord, words, wordsOn, Packable};
 
 // The vote of the query hash at position q with the posting at word k goes to word `at`.

@@ -6,10 +6,11 @@ use native.Mathlib.Omega.{arith}
 use lib.ListN.{length, take, drop}
 use borrow.Author.Tests.{not-true, not-false}
 use Rattle.maps.proofs.Words.{outside-none}
-use Rattle.wang_judge.specs.Gates.{admits}
-use Rattle.wang_judge.specs.declared.Verdict.the-variants.{Barred}
-use Rattle.wang_judge.proofs.Passing.{bar-entry, goes-on}
-use Rattle.panako_judge.specs.Judge.{Vote, houghBins, binCount, thresholdsOf, atPeak, resultOf}
+use Rattle.gates.specs.Gates.{admits}
+use Rattle.query_rank.specs.declared.Verdict.the-variants.{Barred}
+use Rattle.gates.proofs.Passing.{bar-entry, goes-on}
+use Rattle.panako_vote.specs.Words.{Vote}
+use Rattle.panako_judge.specs.Judge.{houghBins, binCount, thresholdsOf, atPeak, resultOf}
 use Rattle.panako_judge.specs.Candidates.{votesIn}
 use Rattle.panako_judge.proofs.Words.{votes-length, bins-good, bins-some, weighed-bins, bins-few, bins-number, bins-outside, part-is}
 use Rattle.panako_judge.proofs.Gates.{seen, judged-by}

@@ -5,10 +5,11 @@ use Prim.Native.Nat.{ℕ, _+_, _≤_}
 use native.Mathlib.Omega.{arith}
 use lib.ListN.{length}
 use borrow.Author.Tests.{not-true, not-false}
-use Rattle.wang_judge.specs.Gates.{admits}
-use Rattle.wang_judge.specs.declared.Verdict.the-variants.{Barred}
-use Rattle.wang_judge.proofs.Passing.{bar-entry, goes-on}
-use Rattle.panako_judge.specs.Judge.{Vote, thresholdsOf, atPeak, resultOf}
+use Rattle.gates.specs.Gates.{admits}
+use Rattle.query_rank.specs.declared.Verdict.the-variants.{Barred}
+use Rattle.gates.proofs.Passing.{bar-entry, goes-on}
+use Rattle.panako_vote.specs.Words.{Vote}
+use Rattle.panako_judge.specs.Judge.{thresholdsOf, atPeak, resultOf}
 use Rattle.panako_judge.specs.Candidates.{votesIn}
 use Rattle.panako_judge.proofs.Words.{votes-length, bins-good, bins-some, weighed-bins}
 use Rattle.panako_judge.proofs.Gates.{seen, judged-by}

@@ -4,8 +4,8 @@ use Prim.Native.Nat.{_≤_}
 use native.Mathlib.Omega.{arith}
 use Rattle.matching.specs.declared.MatchResult.{MatchResult}
 use Rattle.hough.specs.declared.Peak.{Peak}
-use Rattle.wang_judge.specs.Gates.{Thresholds}
-use Rattle.wang_judge.proofs.Passing.{bar-peak, bar-prominence, bar-score, pass-all, peak-is}
+use Rattle.gates.specs.Gates.{Thresholds}
+use Rattle.gates.proofs.Passing.{bar-peak, bar-prominence, bar-score, pass-all, peak-is}
 use Rattle.panako_judge.specs.Judge.{Seen, seenOf, thresholdsOf, atPeak, resultOf}
 use Rattle.panako_judge.proofs.Gates.{peak-found, prominence-found, score-found, result-found}
 use borrow.Author.Needs.{needs}

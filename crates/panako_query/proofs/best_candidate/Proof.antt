@@ -13,7 +13,7 @@ use Rattle.sorting.specs.Sort.{sortZ}
 use Rattle.panako_vote.specs.declared.ScaleGrid.{ScaleGrid}
 use Rattle.main_votes.proofs.Mains.{main-all}
 use Rattle.query_laws.proofs.Sorted.{sorted-best}
-use Rattle.panako_judge.specs.Candidates.{lowest}
+use Rattle.panako_vote.specs.Words.{lowest}
 use Rattle.panako_votes.specs.Gathered as votes-of
 use Rattle.panako_query.specs.Candidates.{reading, bestIn, hashesIn, wordsIn, mainIn, Known}
 use Rattle.panako_query.proofs.Main.{main-best}

@@ -1,7 +1,7 @@
 -- `panako_votes::gather_key` meets its contract: the entries of the part are those under the key. Assumes nothing.
 use native.Mathlib.Omega.{arith}
 use Rattle.maps.proofs.Entries.{part-length, part-entries}
-use Rattle.query_laws.proofs.Walks.{part-many, part-ids}
+use Rattle.query_search.proofs.Walks.{part-many, part-ids}
 use borrow.Author.Needs.{needs}
 use Rattle.panako_votes.proofs.gather_key.Statement.{statement}
 use Rattle.panako_votes.proofs.gather_key.Tie as tie

@@ -5,7 +5,7 @@ use Prim.Native.Nat.{_+_, _-_, _≤_}
 use native.Mathlib.Omega.{arith}
 use lib.ListN.{length, take}
 use Rattle.lists.specs.Entries.{entries}
-use Rattle.query_laws.proofs.Walks.{id-below, given-none, given-count, given-longer, put-none, put-more}
+use Rattle.query_search.proofs.Walks.{id-below, given-none, given-count, given-longer, put-none, put-more}
 use Rattle.panako_votes.specs.Gathered.{wordsWith, wordsOn}
 use borrow.Author.Needs.{needs}
 use Rattle.panako_votes.proofs.gather_part.Statement.{statement}

@@ -5,13 +5,13 @@ use native.Mathlib.Omega.{arith}
 use borrow.Author.Tests.{not-true, not-false}
 use Rattle.maps.specs.Words.{SameOutside}
 use Rattle.maps.proofs.Words.{outside-none}
-use Rattle.wang_judge.specs.Gates.{admits}
+use Rattle.gates.specs.Gates.{admits}
 use Rattle.wang_judge.specs.Judge.{Counts, Seen, seenOf, thresholdsOf, atPeak, resultOf}
-use Rattle.wang_judge.specs.declared.Verdict.the-variants.{Barred}
+use Rattle.query_rank.specs.declared.Verdict.the-variants.{Barred}
 use Rattle.wang_judge.specs.Candidates.{countsIn, Counted}
 use Rattle.wang_judge.proofs.Words.{votes-are, counts-kept, candidate-counted}
 use Rattle.wang_judge.proofs.Gates.{seen-votes, judged-by}
-use Rattle.wang_judge.proofs.Passing.{bar-entry, goes-on}
+use Rattle.gates.proofs.Passing.{bar-entry, goes-on}
 use borrow.Author.Needs.{needs}
 use Rattle.wang_judge.proofs.judge.Statement.{statement}
 use Rattle.wang_judge.proofs.judge.Tie as tie

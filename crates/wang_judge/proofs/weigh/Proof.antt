@@ -9,7 +9,7 @@ use Rattle.consolidate.specs.declared.Peak.{Peak}
 use Rattle.wang_judge.specs.Judge.{Seen, seenOf, thresholdsOf, atPeak, resultOf}
 use Rattle.wang_judge.specs.Candidates.{seenIn}
 use Rattle.wang_judge.proofs.Gates.{span-is, peak-found, prominence-found, peak-total, peak-few, centre-up, centre-few}
-use Rattle.wang_judge.proofs.Passing.{bar-peak, bar-prominence, bar-score, pass-all, peak-is, result-same}
+use Rattle.gates.proofs.Passing.{bar-peak, bar-prominence, bar-score, pass-all, peak-is, result-same}
 use borrow.Author.Needs.{needs}
 use Rattle.wang_judge.proofs.weigh.Statement.{statement}
 use Rattle.wang_judge.proofs.weigh.Tie as tie

@@ -7,7 +7,7 @@ use borrow.Author.Needs.{needs}
 use lib.ListN.{length, getD, take}
 use Rattle.lists.specs.Keys.{under}
 use Rattle.lists.specs.Entries.{entries, keyOf}
-use Rattle.query_laws.proofs.Walks.{firsts, firsts-all, firsts-none}
+use Rattle.query_search.proofs.Walks.{firsts, firsts-all, firsts-none}
 use Rattle.query_search.specs.Starts.{met}
 use Rattle.query_search.proofs.Meeting.{met-none, met-more, met-longer}
 use Rattle.wang_votes.specs.Gathered.{pairWord}

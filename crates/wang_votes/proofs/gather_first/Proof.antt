@@ -10,7 +10,7 @@ use Rattle.lists.specs.Entries.{entryAt}
 use Rattle.lists.proofs.Tests.{and-left, and-right}
 use Rattle.wang_votes.specs.Gathered.{voteWord}
 use Rattle.wang_votes.proofs.Walks.{word-at, written, unwritten}
-use Rattle.query_laws.proofs.Walks.{id-below}
+use Rattle.query_search.proofs.Walks.{id-below}
 use borrow.Author.Needs.{needs}
 use Rattle.wang_votes.proofs.gather_first.Statement.{statement}
 use Rattle.wang_votes.proofs.gather_first.Tie as tie

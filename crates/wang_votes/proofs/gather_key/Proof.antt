@@ -12,7 +12,7 @@ use Rattle.lists.specs.Keys.{under}
 use Rattle.lists.specs.Entries.{entries, entryAt, keyOf}
 use Rattle.maps.specs.Entries.{firstAt}
 use Rattle.maps.proofs.Entries.{first-le, part-length}
-use Rattle.query_laws.proofs.Walks.{part-ids}
+use Rattle.query_search.proofs.Walks.{part-ids}
 use Rattle.wang_votes.specs.Gathered.{voteWord, wordsOn}
 use Rattle.wang_votes.proofs.Walks.{under-long, part-is, put-first}
 use borrow.Author.Needs.{needs}

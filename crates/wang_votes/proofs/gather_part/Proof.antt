@@ -6,7 +6,7 @@ use native.Mathlib.Omega.{arith}
 use borrow.Author.Needs.{needs}
 use lib.ListN.{length, take}
 use Rattle.lists.specs.Entries.{entries}
-use Rattle.query_laws.proofs.Walks.{id-below, put-none}
+use Rattle.query_search.proofs.Walks.{id-below, put-none}
 use Rattle.wang_votes.specs.Gathered.{wordWith, wordsOn}
 use Rattle.wang_votes.proofs.Walks.{put-word}
 use Rattle.wang_votes.proofs.gather_part.Statement.{statement}

@@ -14,7 +14,7 @@ use Rattle.lists.specs.Entries.{entries, entryAt, keyOf}
 use Rattle.lists.proofs.Keep.{all-keep, flat-append, flat-one}
 use Rattle.lists.proofs.Entries.{entries-none, entries-suc, entries-append, entries-all, entry-word, length-entries}
 use Rattle.maps.proofs.Entries.{part-length}
-use Rattle.query_laws.specs.Gathered.{wordsBy, Pairing, wordsOf, wordsFrom, Ids}
+use Rattle.query_search.specs.Gathered.{wordsBy, Pairing, wordsOf, wordsFrom, Ids}
 
 -- ---- the part under a key
 

@@ -1,14 +1,14 @@
--- `panako_judge::put_vote` meets its contract. Assumes nothing.
+-- `panako_vote::put_vote` meets its contract. Assumes nothing.
 use mathlib.Core.Path.{_≡_, ap, _∙_}
 use Prim.Native.Nat.{ℕ, _+_, _*_, _^_}
 use lib.IntN.{pos, _-ℤ_}
 use lib.ListN.{set}
 use Rattle.maps.proofs.Words.{word-is}
-use Rattle.panako_judge.specs.Judge.{codeOf}
-use Rattle.panako_judge.specs.Candidates.{lowest}
+use Rattle.panako_vote.specs.Words.{codeOf}
+use Rattle.panako_vote.specs.Words.{lowest}
 use borrow.Author.Needs.{needs}
-use Rattle.panako_judge.proofs.put_vote.Statement.{statement}
-use Rattle.panako_judge.proofs.put_vote.Tie as tie
+use Rattle.panako_vote.proofs.put_vote.Statement.{statement}
+use Rattle.panako_vote.proofs.put_vote.Tie as tie
 
 number : (c : tie.After-pack) → let o = c .before .before .before in c .pack .result ≡ o .args .id * 2 ^ 52 + codeOf (record { bin = o .args .bin; offset = o .args .offset })
 number c =

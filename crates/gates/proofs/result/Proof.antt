@@ -1,10 +1,10 @@
--- `wang_judge::result` meets its contract. Assumes nothing.
+-- `gates::result` meets its contract. Assumes nothing.
 use mathlib.Core.Path.{refl}
 use Rattle.maps.proofs.Words.{word-is}
-use Rattle.wang_judge.specs.Gates.{resultAt}
+use Rattle.gates.specs.Gates.{resultAt}
 use borrow.Author.Needs.{needs}
-use Rattle.wang_judge.proofs.result.Statement.{statement}
-use Rattle.wang_judge.proofs.result.Tie as tie
+use Rattle.gates.proofs.result.Statement.{statement}
+use Rattle.gates.proofs.result.Tie as tie
 
 from-frames-requires : tie.Need-from-frames-requires
 from-frames-requires c κs = search needs

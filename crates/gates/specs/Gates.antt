@@ -12,8 +12,6 @@ use Rattle.matching.specs.Offsets.{fromFrames}
 use Rattle.matching.specs.Rates.{ratesAgree}
 use Rattle.matching.specs.Scores.{belowThreshold}
 use Rattle.matching.specs.declared.MatchResult.{MatchResult}
-use Rattle.wang_judge.specs.declared.Verdict.{Verdict}
-use Rattle.wang_judge.specs.declared.Verdict.the-variants.{Barred, Passed}
 
 -- what a query asks of every candidate: its own rate and its thresholds
 pub record Thresholds : Type 0 where
@@ -64,8 +62,3 @@ resultAt p frames rate scale = record {
 -- a candidate that passes them all has this result
 abbrev pub passing : List Bool → MatchResult → Option MatchResult
 passing gs r = cond (allTrue gs) (some r) none
-
--- what the code answers
-abbrev pub verdictOf : Option MatchResult → Verdict
-verdictOf none = Barred
-verdictOf (some r) = Passed r

@@ -1,9 +1,9 @@
--- `query_laws::keep` meets its contract. Assumes nothing.
+-- `query_rank::keep` meets its contract. Assumes nothing.
 use mathlib.Core.Path.{_≡_}
-use Rattle.wang_judge.specs.declared.Verdict.the-variants.{Passed}
+use Rattle.query_rank.specs.declared.Verdict.the-variants.{Passed}
 use borrow.Author.Needs.{needs}
-use Rattle.query_laws.proofs.keep.Statement.{statement}
-use Rattle.query_laws.proofs.keep.Tie as tie
+use Rattle.query_rank.proofs.keep.Statement.{statement}
+use Rattle.query_rank.proofs.keep.Tie as tie
 
 enum-told : tie.Need-enum-told
 enum-told c = search needs

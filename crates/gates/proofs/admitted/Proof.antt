@@ -1,8 +1,8 @@
--- `wang_judge::admitted` meets its contract. Assumes nothing.
+-- `gates::admitted` meets its contract. Assumes nothing.
 use mathlib.Core.Path.{refl}
 use borrow.Author.Needs.{needs}
-use Rattle.wang_judge.proofs.admitted.Statement.{statement}
-use Rattle.wang_judge.proofs.admitted.Tie as tie
+use Rattle.gates.proofs.admitted.Statement.{statement}
+use Rattle.gates.proofs.admitted.Tie as tie
 
 frames-per-sec-compatible-requires : tie.Need-frames-per-sec-compatible-requires
 frames-per-sec-compatible-requires c κs = search needs

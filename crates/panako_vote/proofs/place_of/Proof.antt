@@ -1,11 +1,11 @@
--- `panako_judge::place_of` meets its contract. Assumes nothing.
+-- `panako_vote::place_of` meets its contract. Assumes nothing.
 use mathlib.Core.Path.{_≡_, refl}
 use lib.IntN.{pos, _+ℤ_}
 use Rattle.maps.proofs.Words.{word, word-is}
-use Rattle.panako_judge.specs.Judge.{middle}
-use Rattle.panako_judge.proofs.Codes.{place-fits, place-word, place-small}
-use Rattle.panako_judge.proofs.place_of.Statement.{statement}
-use Rattle.panako_judge.proofs.place_of.Tie as tie
+use Rattle.panako_vote.specs.Words.{middle}
+use Rattle.panako_vote.proofs.Words.{place-fits, place-word, place-small}
+use Rattle.panako_vote.proofs.place_of.Statement.{statement}
+use Rattle.panako_vote.proofs.place_of.Tie as tie
 
 arg : (o : tie.Start) → word (o .args .offset) ≡ o .args .offset
 arg o = word-is (o .args .offset) (o .fits .offset)

@@ -1,4 +1,4 @@
--- `panako_judge::lowered` meets its contract. Assumes nothing.
+-- `panako_vote::lowered` meets its contract. Assumes nothing.
 use mathlib.Core.Path.{_≡_, refl, sym, _∙_}
 use Prim.Native.Nat.{ℕ, _-_, _<_, _^_}
 use native.Mathlib.Omega.{arith}
@@ -6,11 +6,11 @@ use lib.IntN.{negsuc, _-ℤ_}
 use mir.Syntax.{w64}
 use mir.Val.{toZ}
 use Rattle.maps.proofs.Words.{word-is, number-is}
-use Rattle.panako_judge.specs.Candidates.{lowest}
-use Rattle.panako_judge.proofs.Codes.{under-one, less-below, less-from}
+use Rattle.panako_vote.specs.Words.{lowest}
+use Rattle.panako_vote.proofs.Words.{under-one, less-below, less-from}
 use borrow.Author.Needs.{needs}
-use Rattle.panako_judge.proofs.lowered.Statement.{statement}
-use Rattle.panako_judge.proofs.lowered.Tie as tie
+use Rattle.panako_vote.proofs.lowered.Statement.{statement}
+use Rattle.panako_vote.proofs.lowered.Tie as tie
 
 under : (m : ℕ) → m < 2 ^ 63 → negsuc 0 -ℤ toZ w64 m ≡ negsuc m
 under m h = rw (number-is m h) (under-one m)

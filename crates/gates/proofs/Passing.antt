@@ -9,9 +9,10 @@ use borrow.Author.Tests.{le-leb, lt-leb}
 use Rattle.lists.specs.Every.{allTrue}
 use Rattle.matching.specs.Scores.{belowThreshold}
 use Rattle.matching.specs.declared.MatchResult.{MatchResult}
-use Rattle.wang_judge.specs.Gates.{Thresholds, AtPeak, admits, peakGates, gates, resultAt, passing, verdictOf}
-use Rattle.wang_judge.specs.declared.Verdict.{Verdict}
-use Rattle.wang_judge.specs.declared.Verdict.the-variants.{Barred, Passed}
+use Rattle.gates.specs.Gates.{Thresholds, AtPeak, admits, peakGates, gates, resultAt, passing}
+use Rattle.query_rank.specs.Verdicts.{verdictOf}
+use Rattle.query_rank.specs.declared.Verdict.{Verdict}
+use Rattle.query_rank.specs.declared.Verdict.the-variants.{Barred, Passed}
 
 -- ---- gates 3 and 4, with what the code found
 module _ (k : Thresholds) (p : AtPeak) (r : MatchResult) where

@@ -1,0 +1,2 @@
+-- The gates one after the other.
+pub mod Passing

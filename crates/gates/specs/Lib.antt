@@ -1,0 +1,2 @@
+-- The gates of a candidate.
+pub mod Gates
