@@ -57,7 +57,7 @@ pub fn lead_at(s: &[i64], i: usize, low: u64, bits: u32) -> u64
 }
 
 // Where the run of words ends, from i on and below e, that are alike without their last bits.
-pub fn run_end(s: &[i64], i: usize, e: usize, low: u64, bits: u32) -> usize
+pub fn lead_run_end(s: &[i64], i: usize, e: usize, low: u64, bits: u32) -> usize
     requires { ⌜ (i < e) × (e ≤ length (now s)) × (low ≤ 2 ^ 63) × (bits < 64) ⌝ }
     ensures { λ r. ⌜ Run (λ (t : ℕ). leadOf low bits (getD (now (s .entry)) t (pos 0))) i e r ⌝ }
 {
@@ -142,7 +142,7 @@ pub fn count_sorted(s: &mut [i64], a: usize, g: usize, at: usize, f: Form, middl
     let mut j = at;
     while i < g {
         let x = code_at(s, a + i, f);
-        let r = run_end(s, a + i, a + g, f.low, f.bits) - a;
+        let r = lead_run_end(s, a + i, a + g, f.low, f.bits) - a;
         j = put_bin(s, j, x, (r - i) as u64, f, middle);
         i = r;
         n += 1;

@@ -31,19 +31,30 @@ next-ok n i b h = go (decLe n (i + 1))
     go (yes p) = rw (le-leb n (i + 1) p) refl
     go (no q) = or-right (leb n (i + 1)) b (is-true b (h (omega arith)))
 
+-- ---- n entries of w words that are all there: what both kinds of bins ask first
+
+pub fitting-of : (l : List ℤ) (n w : ℕ) (b : Bool) → (leb n 1000000 && (leb (w * n) (length l) && b)) ≡ true → (n ≤ 1000000) × (w * n ≤ length l) × (b ≡ true)
+fitting-of l n w b e =
+    let few = leb n 1000000 in
+    let room = leb (w * n) (length l) in
+    let r = and-right few (room && b) e in
+    (leb-true n 1000000 (and-left few (room && b) e), leb-true (w * n) (length l) (and-left room b r), and-right room b r)
+
+pub fitting-ok : (l : List ℤ) (n w : ℕ) (b : Bool) → n ≤ 1000000 → w * n ≤ length l → b ≡ true → (leb n 1000000 && (leb (w * n) (length l) && b)) ≡ true
+fitting-ok l n w b few room e = rw (le-leb n 1000000 few, le-leb (w * n) (length l) room) e
+
 -- ---- the mode's bins
 
 pub bins-of : (l : List ℤ) (n : ℕ) → binsOk l n ≡ true → Bins l n
 unfolding binsOk
 bins-of l n e =
-    let r = and-right (leb n 1000000) (leb (2 * n) (length l) && every n (binOk l)) e in
-    let all = and-right (leb (2 * n) (length l)) (every n (binOk l)) r in
+    let f = fitting-of l n 2 (every n (binOk l)) e in
     record {
-      few = leb-true n 1000000 (and-left (leb n 1000000) (leb (2 * n) (length l) && every n (binOk l)) e);
-      room = leb-true (2 * n) (length l) (and-left (leb (2 * n) (length l)) (every n (binOk l)) r);
-      close = λ i h. leb-true (natAbs (offset l i)) (2 ^ 33) (and-left (leb (natAbs (offset l i)) (2 ^ 33)) (nonNeg (countOf l i) && ltb (votes l i) (2 ^ 32)) (every-at (binOk l) n i all h));
-      counted = λ i h. holds (and-left (nonNeg (countOf l i)) (ltb (votes l i) (2 ^ 32)) (one i h all));
-      small = λ i h. ltb-true (votes l i) (2 ^ 32) (and-right (nonNeg (countOf l i)) (ltb (votes l i) (2 ^ 32)) (one i h all));
+      few = f .0;
+      room = f .1;
+      close = λ i h. leb-true (natAbs (offset l i)) (2 ^ 33) (and-left (leb (natAbs (offset l i)) (2 ^ 33)) (nonNeg (countOf l i) && ltb (votes l i) (2 ^ 32)) (every-at (binOk l) n i (f .2) h));
+      counted = λ i h. holds (and-left (nonNeg (countOf l i)) (ltb (votes l i) (2 ^ 32)) (one i h (f .2)));
+      small = λ i h. ltb-true (votes l i) (2 ^ 32) (and-right (nonNeg (countOf l i)) (ltb (votes l i) (2 ^ 32)) (one i h (f .2)));
     }
   where
     one : (i : ℕ) → i < n → every n (binOk l) ≡ true → (nonNeg (countOf l i) && ltb (votes l i) (2 ^ 32)) ≡ true
@@ -52,7 +63,7 @@ bins-of l n e =
 pub bins-ok : (l : List ℤ) (n : ℕ) → Bins l n → binsOk l n ≡ true
 unfolding binsOk
 bins-ok l n b =
-    rw (le-leb n 1000000 (b .few), le-leb (2 * n) (length l) (b .room))
+    fitting-ok l n 2 (every n (binOk l)) (b .few) (b .room)
     (every-make (binOk l) n (λ i h. rw (le-leb (natAbs (offset l i)) (2 ^ 33) (b .close i h), is-true (nonNeg (countOf l i)) (b .counted i h), lt-ltb (votes l i) (2 ^ 32) (b .small i h)) refl))
 
 -- ---- the span

@@ -14,7 +14,7 @@ use Rattle.lists.specs.Every.{every}
 use Rattle.lists.proofs.Tests.{and-left, and-right}
 use Rattle.lists.proofs.Every.{every-at, every-make}
 use Rattle.maps.proofs.Tests.{holds, is-true}
-use Rattle.consolidate.proofs.Checks.{next-of, next-ok}
+use Rattle.consolidate.proofs.Checks.{next-of, next-ok, fitting-of, fitting-ok}
 use Rattle.hough.specs.Hough.{scaleWord, offset, countOf, scale, votes}
 use Rattle.hough.specs.Limits.{before, Bins, binOk, binsOk}
 
@@ -47,28 +47,26 @@ one l n i e =
 pub bins-of : (l : List ℤ) (n : ℕ) → binsOk l n ≡ true → Bins l n
 unfolding binsOk
 bins-of l n e =
-    let few = leb n 1000000 in
-    let room = leb (3 * n) (length l) in
     let all = every n (binOk l n) in
     let sum = leb (sumTo (votes l) n) 1000000 in
-    let e₁ = and-right few (room && (all && sum)) e in
-    let e₂ = and-right room (all && sum) e₁ in
-    let at : (i : ℕ) → i < n → One l n i = λ i h. one l n i (every-at (binOk l n) n i (and-left all sum e₂) h) in
+    let f = fitting-of l n 3 (all && sum) e in
+    let at : (i : ℕ) → i < n → One l n i = λ i h. one l n i (every-at (binOk l n) n i (and-left all sum (f .2)) h) in
     record {
-      few = leb-true n 1000000 (and-left few (room && (all && sum)) e);
-      room = leb-true (3 * n) (length l) (and-left room (all && sum) e₁);
+      few = f .0;
+      room = f .1;
       scaled = λ i h. at i h .scaled;
       scales = λ i h. at i h .scales;
       close = λ i h. at i h .close;
       counted = λ i h. at i h .counted;
       ascend = λ i h. at i (omega arith) .rises h;
-      sum = leb-true (sumTo (votes l) n) 1000000 (and-right all sum e₂);
+      sum = leb-true (sumTo (votes l) n) 1000000 (and-right all sum (f .2));
     }
 
 pub bins-ok : (l : List ℤ) (n : ℕ) → Bins l n → binsOk l n ≡ true
 unfolding binsOk
 bins-ok l n b =
-    rw (le-leb n 1000000 (b .few), le-leb (3 * n) (length l) (b .room), every-make (binOk l n) n at, le-leb (sumTo (votes l) n) 1000000 (b .sum)) refl
+    fitting-ok l n 3 (every n (binOk l n) && leb (sumTo (votes l) n) 1000000) (b .few) (b .room)
+    (rw (every-make (binOk l n) n at, le-leb (sumTo (votes l) n) 1000000 (b .sum)) refl)
   where
     at : (i : ℕ) → i < n → binOk l n i ≡ true
     at i h =

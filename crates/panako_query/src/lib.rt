@@ -15,8 +15,8 @@ ghost use Rattle.panako_judge.specs.Candidates.{votesIn};
 ghost use Rattle.panako_judge.specs.Scheme.{queryOf, panako};
 ghost use Rattle.panako_query.specs.Arguments.{queryWith};
 ghost use Rattle.panako_query.specs.Candidates.{bestIn, wordsIn, answerIn, mainIn, Limits, Known, Votes, OneRecording, Alike, Posted};
-use panako_vote::LOWEST;
 use panako_judge::PanakoQuery;
+use panako_vote::LOWEST;
 use panako_vote::PanakoMatchConfig;
 use panako_vote::ScaleGrid;
 use query_rank::Best;
@@ -30,7 +30,7 @@ fn best_of(s: &mut [i64], v: usize, refs: &[u32], q: PanakoQuery) -> Best
     let mut best = Best::Nothing;
     let mut i = 0;
     while i < v {
-        let e = bins::run_end(s, i, v, LOWEST, 52);
+        let e = bins::lead_run_end(s, i, v, LOWEST, 52);
         let id = bins::lead_at(s, i, LOWEST, 52);
         let rate = rows::row_word(refs, id as usize, 0);
         best = query_rank::keep(
@@ -64,7 +64,7 @@ fn few_bins(s: &mut [i64], v: usize) -> usize
     if v == 0 {
         return 0;
     }
-    if bins::run_end(s, 0, v, LOWEST, 52) < v {
+    if bins::lead_run_end(s, 0, v, LOWEST, 52) < v {
         return 0;
     }
     panako_judge::count_few(s, v, 2 * v)

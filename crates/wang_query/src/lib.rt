@@ -23,7 +23,7 @@ fn best_of(s: &mut [i64], v: usize, refs: &[u32], q: WangQuery) -> Best
     let mut best = Best::Nothing;
     let mut i = 0;
     while i < v {
-        let e = bins::run_end(s, i, v, 0, 44);
+        let e = bins::lead_run_end(s, i, v, 0, 44);
         let id = bins::lead_at(s, i, 0, 44);
         let j = id as usize;
         let rate = rows::row_word(refs, j, 0);

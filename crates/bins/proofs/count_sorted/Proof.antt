@@ -21,14 +21,14 @@ add-code-at c = search needs
 code-at-requires : tie.Need-code-at-requires Inv-loop μ-loop
 code-at-requires c κs = search needs
 
-add-run-end : tie.Need-add-run-end Inv-loop μ-loop
-add-run-end c = search needs
+add-lead-run-end : tie.Need-add-lead-run-end Inv-loop μ-loop
+add-lead-run-end c = search needs
 
-add-run-end-2 : tie.Need-add-run-end-2 Inv-loop μ-loop
-add-run-end-2 c = search needs
+add-lead-run-end-2 : tie.Need-add-lead-run-end-2 Inv-loop μ-loop
+add-lead-run-end-2 c = search needs
 
-run-end-requires : tie.Need-run-end-requires Inv-loop μ-loop
-run-end-requires c κs = search needs
+lead-run-end-requires : tie.Need-lead-run-end-requires Inv-loop μ-loop
+lead-run-end-requires c κs = search needs
 
 sub-r : tie.Need-sub-r Inv-loop μ-loop
 sub-r c = search needs
@@ -55,7 +55,7 @@ loop-less c =
     let o = c .before .before .before .before .before .before .before .before .before in
     let a = o .args in
     let l = c .before .before .before .before .before .before .before .before .loop in
-    let u = binning-run (a .f) (a .middle) (a .s .now) (l .s) (a .a) (a .g) (a .at) (l .i) (l .n) (l .j) (o .pre .0) (l .inv) (omega arith) _ (c .before .before .before .run-end .ensures) in
+    let u = binning-run (a .f) (a .middle) (a .s .now) (l .s) (a .a) (a .g) (a .at) (l .i) (l .n) (l .j) (o .pre .0) (l .inv) (omega arith) _ (c .before .before .before .lead-run-end .ensures) in
     omega (arith, u .since, u .within)
 
 loop-again : tie.Need-loop-again Inv-loop μ-loop
@@ -63,7 +63,7 @@ loop-again c =
     let o = c .before .before .before .before .before .before .before .before .before in
     let a = o .args in
     let l = c .before .before .before .before .before .before .before .before .loop in
-    binning-more (a .f) (a .middle) (a .s .now) (l .s) (a .a) (a .g) (a .at) (l .i) (l .n) (l .j) (o .pre .0) (l .inv) (omega arith) _ (c .before .before .before .run-end .ensures)
+    binning-more (a .f) (a .middle) (a .s .now) (l .s) (a .a) (a .g) (a .at) (l .i) (l .n) (l .j) (o .pre .0) (l .inv) (omega arith) _ (c .before .before .before .lead-run-end .ensures)
     (c .before .put-bin .last .0) _ _ (c .before .before .before .before .before .code-at .ensures .0) (c .before .put-bin .ensures .0) (c .before .put-bin .ensures .1)
 
 same-length : tie.Need-same-length Inv-loop μ-loop
@@ -85,9 +85,9 @@ count-sorted-spec =
     loop-holds
     add-code-at
     code-at-requires
-    add-run-end
-    add-run-end-2
-    run-end-requires
+    add-lead-run-end
+    add-lead-run-end-2
+    lead-run-end-requires
     sub-r
     sub-put-bin
     put-bin-requires

@@ -19,8 +19,8 @@ abbrev μ-loop : tie.MeasureT-loop
 loop-holds : tie.Need-loop-holds Inv-loop μ-loop
 loop-holds c = let a = c .before .args in judged-none (reading (a .q)) (a .refs .now) (Known (a .refs .now)) 5 (a .s .now) (a .v) (c .before .pre .words)
 
-run-end-requires : tie.Need-run-end-requires Inv-loop μ-loop
-run-end-requires c κs = omega (arith, c .before .before .loop .inv .votes .room)
+lead-run-end-requires : tie.Need-lead-run-end-requires Inv-loop μ-loop
+lead-run-end-requires c κs = omega (arith, c .before .before .loop .inv .votes .room)
 
 lead-at-requires : tie.Need-lead-at-requires Inv-loop μ-loop
 lead-at-requires c κs = omega (arith, c .before .before .before .before .loop .inv .votes .room)
@@ -32,7 +32,7 @@ cast-keep : tie.Need-cast-keep Inv-loop μ-loop
 cast-keep c = let l = c .before .before .before .before .before .before .loop in record { fits = omega (arith, c .before .lead-at .ensures, l .inv .votes .each (l .i) (omega arith), c .before .before .before .before .before .before .before .before .pre .limits .many) }
 
 sub-judge : tie.Need-sub-judge Inv-loop μ-loop
-sub-judge c = omega (arith, c .before .before .before .before .run-end .ensures .since)
+sub-judge c = omega (arith, c .before .before .before .before .lead-run-end .ensures .since)
 
 mul-judge : tie.Need-mul-judge Inv-loop μ-loop
 mul-judge c = search needs
@@ -42,19 +42,19 @@ judge-requires c κs =
     let s = c .before .before .before .before .before .before .before .before .before in
     let a = s .args in
     let l = c .before .before .before .before .before .before .before .loop in
-    candidate (a .refs .now) (a .q) (a .s .now) (l .s) (a .v) (bestSoFar (l .best)) (l .i) (l .inv) (c .before .before .before .before .before .before .loop-test .taken) (c .before .before .before .before .run-end .result) (c .before .before .before .before .run-end .ensures) (s .pre .limits)
+    candidate (a .refs .now) (a .q) (a .s .now) (l .s) (a .v) (bestSoFar (l .best)) (l .i) (l .inv) (c .before .before .before .before .before .before .loop-test .taken) (c .before .before .before .before .lead-run-end .result) (c .before .before .before .before .lead-run-end .ensures) (s .pre .limits)
 
 keep-requires : tie.Need-keep-requires Inv-loop μ-loop
 keep-requires c κs = search needs
 
 loop-less : tie.Need-loop-less Inv-loop μ-loop
-loop-less c = omega (arith, c .before .before .before .before .before .before .before .run-end .ensures .since)
+loop-less c = omega (arith, c .before .before .before .before .before .before .before .lead-run-end .ensures .since)
 
 loop-again : tie.Need-loop-again Inv-loop μ-loop
 loop-again c =
     let a = c .before .before .before .before .before .before .before .before .before .before .before .before .args in
     let l = c .before .before .before .before .before .before .before .before .before .before .loop in
-    walked-on (a .refs .now) (a .q) (a .s .now) (l .s) (a .v) (bestSoFar (l .best)) (l .i) (l .inv) (c .before .before .before .before .before .before .before .before .before .loop-test .taken) (c .before .before .before .before .before .before .before .run-end .result) (c .before .before .before .before .before .before .before .run-end .ensures)
+    walked-on (a .refs .now) (a .q) (a .s .now) (l .s) (a .v) (bestSoFar (l .best)) (l .i) (l .inv) (c .before .before .before .before .before .before .before .before .before .loop-test .taken) (c .before .before .before .before .before .before .before .lead-run-end .result) (c .before .before .before .before .before .before .before .lead-run-end .ensures)
     (c .before .before .judge .last .0) _ (c .before .before .judge .kept .0) (c .before .before .judge .ensures .1) (c .before .before .before .before .before .lead-at .result) (c .before .before .before .before .row-word .result) (c .before .before .judge .result) (bestSoFar (c .keep .result))
     (c .before .before .before .before .before .lead-at .ensures) (c .before .before .before .before .row-word .ensures) (c .before .before .judge .ensures .0) (c .keep .ensures)
 
@@ -75,7 +75,7 @@ best-of-spec =
     Inv-loop
     μ-loop
     loop-holds
-    run-end-requires
+    lead-run-end-requires
     lead-at-requires
     row-word-requires
     cast-keep

@@ -9,8 +9,8 @@ use Rattle.panako_query.proofs.few_bins.Tie as tie
 returns : tie.Need-returns
 returns c = ((λ h. absurd (omega arith)), (refl, λ o. absurd (omega (arith, o .some))))
 
-run-end-requires : tie.Need-run-end-requires
-run-end-requires c κs = search needs
+lead-run-end-requires : tie.Need-lead-run-end-requires
+lead-run-end-requires c κs = search needs
 
 same-length : tie.Need-same-length
 same-length c = search needs
@@ -19,7 +19,7 @@ returns-2 : tie.Need-returns-2
 returns-2 c =
     let u = c .before in
     let o = u .before .before .before in
-    ((λ h. absurd (omega arith)), (refl, λ one. absurd (not-one (o .args .s .now) (o .args .v) (u .run-end .result) (u .run-end .ensures) (omega (arith, c .if2 .taken)) one)))
+    ((λ h. absurd (omega arith)), (refl, λ one. absurd (not-one (o .args .s .now) (o .args .v) (u .lead-run-end .result) (u .lead-run-end .ensures) (omega (arith, c .if2 .taken)) one)))
 
 mul-count-few : tie.Need-mul-count-few
 mul-count-few c = search needs
@@ -37,14 +37,14 @@ returns-3 c =
     let o = u .before .before .before in
     let n = k .count-few in
     let kept = n .ensures .1 .1 in
-    (λ h. alike (o .args .s .now) (n .last .0) (o .args .v) (n .result) (u .run-end .result) (omega arith) kept (u .run-end .ensures) (omega arith) (n .ensures .1 .0 h), (kept, λ one. n .ensures .0))
+    (λ h. alike (o .args .s .now) (n .last .0) (o .args .v) (n .result) (u .lead-run-end .result) (omega arith) kept (u .lead-run-end .ensures) (omega arith) (n .ensures .1 .0 h), (kept, λ one. n .ensures .0))
 
 pub few-bins-spec : {M : Type 1} → statement M
 few-bins-spec =
     tie.close
     (tie.spec
     returns
-    run-end-requires
+    lead-run-end-requires
     same-length
     returns-2
     mul-count-few

@@ -19,8 +19,8 @@ abbrev μ-loop : tie.MeasureT-loop
 loop-holds : tie.Need-loop-holds Inv-loop μ-loop
 loop-holds c = let a = c .before .args in judged-none (reading (a .q)) (a .refs .now) (Spanned (a .refs .now) (a .q .«q_max»)) 4 (a .s .now) (a .v) (c .before .pre .words)
 
-run-end-requires : tie.Need-run-end-requires Inv-loop μ-loop
-run-end-requires c κs = let W = c .before .before .loop .inv .votes in omega (arith, W .room)
+lead-run-end-requires : tie.Need-lead-run-end-requires Inv-loop μ-loop
+lead-run-end-requires c κs = let W = c .before .before .loop .inv .votes in omega (arith, W .room)
 
 lead-at-requires : tie.Need-lead-at-requires Inv-loop μ-loop
 lead-at-requires c κs = let W = c .before .before .before .before .loop .inv .votes in omega (arith, W .room)
@@ -44,7 +44,7 @@ cast-keep c =
     record { fits = omega (arith, c .before .before .lead-at .ensures, W .each (c .before .before .before .before .before .before .before .loop .i) (omega arith) .known, L .many) }
 
 sub-judge : tie.Need-sub-judge Inv-loop μ-loop
-sub-judge c = omega (arith, c .before .before .before .before .before .run-end .ensures .since)
+sub-judge c = omega (arith, c .before .before .before .before .before .lead-run-end .ensures .since)
 
 mul-judge : tie.Need-mul-judge Inv-loop μ-loop
 mul-judge c = let W = c .before .before .before .before .before .before .before .before .loop .inv .votes in record { fits = omega (arith, W .few) }
@@ -54,19 +54,19 @@ judge-requires c κs =
     let s = c .before .before .before .before .before .before .before .before .before .before in
     let l = c .before .before .before .before .before .before .before .before .loop in
     rw (c .before .row-word2 .ensures, c .before .before .before .lead-at .ensures)
-    (candidate (s .args .refs .now) (s .args .q) (s .args .s .now) (l .s) (s .args .v) (bestSoFar (l .best)) (l .i) (l .inv) (c .before .before .before .before .before .before .before .loop-test .taken) (c .before .before .before .before .before .run-end .result) (c .before .before .before .before .before .run-end .ensures) (s .pre .limits))
+    (candidate (s .args .refs .now) (s .args .q) (s .args .s .now) (l .s) (s .args .v) (bestSoFar (l .best)) (l .i) (l .inv) (c .before .before .before .before .before .before .before .loop-test .taken) (c .before .before .before .before .before .lead-run-end .result) (c .before .before .before .before .before .lead-run-end .ensures) (s .pre .limits))
 
 keep-requires : tie.Need-keep-requires Inv-loop μ-loop
 keep-requires c κs = search needs
 
 loop-less : tie.Need-loop-less Inv-loop μ-loop
-loop-less c = omega (arith, c .before .before .before .before .before .before .before .before .run-end .ensures .since)
+loop-less c = omega (arith, c .before .before .before .before .before .before .before .before .lead-run-end .ensures .since)
 
 loop-again : tie.Need-loop-again Inv-loop μ-loop
 loop-again c =
     let s = c .before .before .before .before .before .before .before .before .before .before .before .before .before in
     let l = c .before .before .before .before .before .before .before .before .before .before .before .loop in
-    walked-on (s .args .refs .now) (s .args .q) (s .args .s .now) (l .s) (s .args .v) (bestSoFar (l .best)) (l .i) (l .inv) (c .before .before .before .before .before .before .before .before .before .before .loop-test .taken) (c .before .before .before .before .before .before .before .before .run-end .result) (c .before .before .before .before .before .before .before .before .run-end .ensures)
+    walked-on (s .args .refs .now) (s .args .q) (s .args .s .now) (l .s) (s .args .v) (bestSoFar (l .best)) (l .i) (l .inv) (c .before .before .before .before .before .before .before .before .before .before .loop-test .taken) (c .before .before .before .before .before .before .before .before .lead-run-end .result) (c .before .before .before .before .before .before .before .before .lead-run-end .ensures)
     (c .before .before .judge .last .0) _ (c .before .before .judge .kept .0) (c .before .before .judge .ensures .1) (c .before .before .before .before .before .before .lead-at .result) (c .before .before .before .before .before .row-word .result) (c .before .before .before .before .row-word2 .result) (c .before .before .judge .result) (bestSoFar (c .keep .result))
     (c .before .before .before .before .before .before .lead-at .ensures) (c .before .before .before .before .before .row-word .ensures) (c .before .before .before .before .row-word2 .ensures) (c .before .before .judge .ensures .0) (c .keep .ensures)
 
@@ -87,7 +87,7 @@ best-of-spec =
     Inv-loop
     μ-loop
     loop-holds
-    run-end-requires
+    lead-run-end-requires
     lead-at-requires
     row-word-requires
     row-word-requires-2

@@ -1,4 +1,4 @@
--- `bins::run_end` meets its contract: the words from `i` up to `r` are alike. Assumes nothing.
+-- `bins::lead_run_end` meets its contract: the words from `i` up to `r` are alike. Assumes nothing.
 use Prim.Native.Nat.{ℕ, _-_, _≤_, _<_}
 use mathlib.Core.Path.{_≡_, sym, ap, _∙_}
 use lib.IntN.{pos}
@@ -7,8 +7,8 @@ use Rattle.maps.proofs.Tests.{next-from}
 use Rattle.bins.specs.Votes.{leadOf}
 use native.Mathlib.Omega.{arith}
 use borrow.Author.Needs.{needs}
-use Rattle.bins.proofs.run_end.Statement.{statement}
-use Rattle.bins.proofs.run_end.Tie as tie
+use Rattle.bins.proofs.lead_run_end.Statement.{statement}
+use Rattle.bins.proofs.lead_run_end.Tie as tie
 
 abbrev Inv-loop : tie.InvT-loop
 Inv-loop s i e low bits x r₀ r = (i < r) × (r ≤ e) × ((t : ℕ) → i ≤ t → t < r → leadOf low bits (getD s t (pos 0)) ≡ leadOf low bits (getD s i (pos 0)))
@@ -55,8 +55,8 @@ loop-again c =
 returns-2 : tie.Need-returns-2 Inv-loop μ-loop
 returns-2 c = search needs
 
-pub run-end-spec : {M : Type 1} → statement M
-run-end-spec =
+pub lead-run-end-spec : {M : Type 1} → statement M
+lead-run-end-spec =
     tie.close
     (tie.spec
     Inv-loop
