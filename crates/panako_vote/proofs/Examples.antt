@@ -53,9 +53,14 @@ unfolding gridOf perBin voteOn voteAtScale binAt roundToI64 add sub mul div lt o
 votes = (refl, refl, refl, refl, refl, refl, refl)
 
 -- equal spans: scale 1 lies in bin 0 of that grid, and below a grid of scales from 2 to 4
-units : (pairVote grid 250 260 100 110 ≡ At 0 (negsuc 149)) × (pairVote (settings two four 2 1) 250 260 100 110 ≡ Nothing)
+units :
+    (gridOf grid .«unit_bin» ≡ 0)
+    × (gridOf grid .«unit_votes» ≡ true)
+    × (pairVote grid 250 260 100 110 ≡ At 0 (negsuc 149))
+    × (gridOf (settings two four 2 1) .«unit_votes» ≡ false)
+    × (pairVote (settings two four 2 1) 250 260 100 110 ≡ Nothing)
 unfolding gridOf perBin voteOn voteAtScale binAt roundToI64 add sub mul div lt ofInt toUnsigned
-units = (refl, refl)
+units = (refl, refl, refl, refl, refl)
 
 -- "Tolerance 65,535 passes; 65,536 is refused 4."
 tolerances : (withinLimits (settings one two 4096 65535) ≡ true) × (checkedVote (settings one two 2 65536) 0 4 7 10 ≡ Checked.Refused)

@@ -70,6 +70,8 @@ module _ (cfg : PanakoMatchConfig) (A : Accepted cfg) where
             small-le 7 (add binary64 (cfg .«scale_max») (mul binary64 (per cfg) half))
             (small-add binary64 6 (cfg .«scale_max») (mul binary64 (per cfg) half) (lit< tt) small-max (small-half binary64 6 (per cfg) (lit< tt) small-per));
         last = below (cfg .«scale_bins») (A .fewBins);
+        unitBin = refl;
+        unitVotes = refl;
       }
     where
       below : (n : ℕ) → n ≤ 4096 → n - 1 < 4096

@@ -2,17 +2,29 @@
 // `normalize_config` of the reference's `panako.rs`, refusal 4, and the inner loop of
 // `PanakoIndex::query`; and a vote as one word.
 ghost use mathlib.Core.Path.{_≡_};
+<<<<<<< HEAD
 ghost use mathlib.Core.Bool.{cond};
 ghost use Prim.Native.Nat.{_+_, _-_, _*_, _<_, _^_};
 ghost use lib.IntN.{pos, natAbs, _+ℤ_, _-ℤ_};
 ghost use lib.ListN.{length, set};
+=======
+ghost use mathlib.Core.Bool.{not, _&&_, cond};
+ghost use Prim.Native.Nat.{_-_};
+ghost use lib.IntN.{pos, _-ℤ_};
+ghost use lib.Dec.{eqb, ltb};
+>>>>>>> parent of fc3ded4 (Pairs of equal spans are voted as all others)
 ghost use lib.Ieee.{lt};
 ghost use lib.Ieee.Scale.{finite};
 ghost use Rattle.floats.specs.Selection.{zero};
 ghost use Rattle.panako_vote.specs.Settings.{ascending, scaleBins, normalised, withinLimits, Accepted};
 ghost use Rattle.panako_vote.specs.Grids.{binAt, gridOf, Limited};
+<<<<<<< HEAD
 ghost use Rattle.panako_vote.specs.Votes.{span, spanRatio, voteOn, isVote, InRange, Bounded, checkedVote};
 ghost use Rattle.panako_vote.specs.Words.{middle, lowest, wordOf};
+=======
+ghost use Rattle.panako_vote.specs.Votes.{span, spanRatio, noneIf, voteOn, isVote, Bounded, checkedVote};
+ghost use Rattle.panako_vote.specs.declared.Vote.the-variants.{At};
+>>>>>>> parent of fc3ded4 (Pairs of equal spans are voted as all others)
 
 // The settings that the index uses.
 pub struct PanakoMatchConfig {
@@ -104,6 +116,9 @@ pub struct ScaleGrid {
     pub low: f64,
     pub high: f64,
     pub last_bin: u32,
+    // The scale bin of scale 1, and whether scale 1 votes.
+    pub unit_bin: u32,
+    pub unit_votes: bool,
 }
 
 // The scale grid of these settings. Half a bin beyond each end still votes.
@@ -118,12 +133,16 @@ pub fn scale_grid(cfg: PanakoMatchConfig) -> ScaleGrid
     let low: f64 = scale_min - slack;
     let high: f64 = scale_max + slack;
     let last_bin = saturating_sub(cfg.scale_bins, 1);
+    let unit_bin = scale_bin((1.0 - scale_min) / scale_per_bin, last_bin);
+    let unit_votes = !((1.0 < low) | (1.0 > high));
     ScaleGrid {
         scale_min,
         scale_per_bin,
         low,
         high,
         last_bin,
+        unit_bin,
+        unit_votes,
     }
 }
 
@@ -152,12 +171,35 @@ pub fn has_vote(g: ScaleGrid, q_anchor: u32, q_end: u32, r_anchor: u32, r_end: u
     (q_anchor < q_end) & (r_anchor < r_end) & !outside
 }
 
-// The vote of the pair.
+// Whether the spans are equal and not empty: then the scale is 1.
+fn is_unit(q_anchor: u32, q_end: u32, r_anchor: u32, r_end: u32) -> bool
+    ensures { λ r. ⌜ r ≡ (eqb (span «r_anchor» «r_end») (span «q_anchor» «q_end») && ltb 0 (span «q_anchor» «q_end»)) ⌝ }
+{
+    let span = saturating_sub(q_end, q_anchor);
+    (saturating_sub(r_end, r_anchor) == span) & (0 < span)
+}
+
+// The vote of a pair of scale 1.
+fn unit_vote(g: ScaleGrid, q_anchor: u32, r_anchor: u32) -> Vote
+    ensures { λ v. ⌜ v ≡ noneIf (not (g .«unit_votes»)) (At (g .«unit_bin») (pos «r_anchor» -ℤ pos «q_anchor»)) ⌝ }
+{
+    if g.unit_votes {
+        let bin = g.unit_bin;
+        let offset = (r_anchor as i64) - (q_anchor as i64);
+        return Vote::At { bin, offset };
+    }
+    Vote::Nothing
+}
+
+// The vote of the pair. Most pairs have equal spans, and need no float.
 pub fn pair_vote(g: ScaleGrid, q_anchor: u32, q_end: u32, r_anchor: u32, r_end: u32) -> Vote
     requires { ⌜ Limited g ⌝ }
     ensures { λ v. ⌜ v ≡ voteOn g «q_anchor» «q_end» «r_anchor» «r_end» ⌝ }
     ensures bounded { λ v. ⌜ Bounded (g .«last_bin») v ⌝ }
 {
+    if is_unit(q_anchor, q_end, r_anchor, r_end) {
+        return unit_vote(g, q_anchor, r_anchor);
+    }
     if has_vote(g, q_anchor, q_end, r_anchor, r_end) {
         let s = pair_scale(q_anchor, q_end, r_anchor, r_end);
         let b = (r_anchor as f64) - s * (q_anchor as f64);

@@ -18,12 +18,15 @@ scale-per-bin-requires c κs = search needs
 saturating-sub-requires : tie.Need-saturating-sub-requires
 saturating-sub-requires c κs = search needs
 
+scale-bin-requires : tie.Need-scale-bin-requires
+scale-bin-requires c κs = search needs
+
 returns : tie.Need-returns
 unfolding gridOf ofBits
 returns c =
-    let p = c .before in
+    let p = c .before .before in
     grid-limited _ _
-    (rw (c .saturating-sub .ensures, p .scale-per-bin .ensures, p .before .f32-to-f64-with-nan2 .ensures, p .before .before .f32-to-f64-with-nan .ensures))
+    (rw (c .scale-bin .ensures, c .before .saturating-sub .ensures, p .scale-per-bin .ensures, p .before .f32-to-f64-with-nan2 .ensures, p .before .before .f32-to-f64-with-nan .ensures))
 
 pub scale-grid-spec : {M : Type 1} → statement M
 scale-grid-spec =
@@ -33,4 +36,5 @@ scale-grid-spec =
     f32-to-f64-with-nan-requires-2
     scale-per-bin-requires
     saturating-sub-requires
+    scale-bin-requires
     returns)
