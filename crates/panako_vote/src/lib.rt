@@ -2,29 +2,19 @@
 // `normalize_config` of the reference's `panako.rs`, refusal 4, and the inner loop of
 // `PanakoIndex::query`; and a vote as one word.
 ghost use mathlib.Core.Path.{_≡_};
-<<<<<<< HEAD
-ghost use mathlib.Core.Bool.{cond};
+ghost use mathlib.Core.Bool.{not, _&&_, cond};
 ghost use Prim.Native.Nat.{_+_, _-_, _*_, _<_, _^_};
 ghost use lib.IntN.{pos, natAbs, _+ℤ_, _-ℤ_};
 ghost use lib.ListN.{length, set};
-=======
-ghost use mathlib.Core.Bool.{not, _&&_, cond};
-ghost use Prim.Native.Nat.{_-_};
-ghost use lib.IntN.{pos, _-ℤ_};
 ghost use lib.Dec.{eqb, ltb};
->>>>>>> parent of fc3ded4 (Pairs of equal spans are voted as all others)
 ghost use lib.Ieee.{lt};
 ghost use lib.Ieee.Scale.{finite};
 ghost use Rattle.floats.specs.Selection.{zero};
 ghost use Rattle.panako_vote.specs.Settings.{ascending, scaleBins, normalised, withinLimits, Accepted};
 ghost use Rattle.panako_vote.specs.Grids.{binAt, gridOf, Limited};
-<<<<<<< HEAD
-ghost use Rattle.panako_vote.specs.Votes.{span, spanRatio, voteOn, isVote, InRange, Bounded, checkedVote};
+ghost use Rattle.panako_vote.specs.Votes.{span, spanRatio, noneIf, voteOn, isVote, InRange, Bounded, checkedVote};
 ghost use Rattle.panako_vote.specs.Words.{middle, lowest, wordOf};
-=======
-ghost use Rattle.panako_vote.specs.Votes.{span, spanRatio, noneIf, voteOn, isVote, Bounded, checkedVote};
 ghost use Rattle.panako_vote.specs.declared.Vote.the-variants.{At};
->>>>>>> parent of fc3ded4 (Pairs of equal spans are voted as all others)
 
 // The settings that the index uses.
 pub struct PanakoMatchConfig {
