@@ -14,7 +14,7 @@ use Rattle.maps.specs.Bins.{offset, votes, place}
 use Rattle.maps.proofs.Sums.{sum-cong}
 use Rattle.maps.proofs.Lists.{sum-count}
 use Rattle.bins.specs.Votes.{wangForm, placeOf, places}
-use Rattle.bins.specs.Codes.{codesIn, occupied, votesAt, offsetWords, binsOf, stored}
+use Rattle.bins.specs.Codes.{codesIn, occupied, howOften, offsetWords, binsOf, stored}
 use Rattle.bins.specs.Binned.{Binned}
 use Rattle.bins.proofs.Stored.{stored-read}
 use Rattle.bins.proofs.Occupied.{occupied-few, occupied-some, occupied-voted, occupied-all, key, keys-up, keys-held, bins-length, bins-at}
@@ -45,19 +45,19 @@ module _ (middle : ℕ) (ks : List ℕ) (l : List ℤ) (written : take (2 * leng
   low = negℤ (pos middle)
 
   module _ (j : ℕ) (h : j < n) where
-    words : (t : ℕ) → t < 2 → getD l (2 * j + t) (pos 0) ≡ getD (offsetWords middle (key ks j) (votesAt ks (key ks j))) t (pos 0)
+    words : (t : ℕ) → t < 2 → getD l (2 * j + t) (pos 0) ≡ getD (offsetWords middle (key ks j) (howOften ks (key ks j))) t (pos 0)
     words t k = sym (getD-take (2 * n) l (2 * j + t) (pos 0) (omega arith)) ∙ ap (λ (x : List ℤ). getD x (2 * j + t) (pos 0)) written ∙ bins-at wangForm middle ks j t h k
 
     offset-is : offset l j ≡ low +ℤ pos (key ks j)
     offset-is = let e : 2 * j ≡ 2 * j + 0 = omega arith in ap (λ (k : ℕ). getD l k (pos 0)) e ∙ words 0 (omega arith)
 
-    count-is : getD l (2 * j + 1) (pos 0) ≡ pos (votesAt ks (key ks j))
+    count-is : getD l (2 * j + 1) (pos 0) ≡ pos (howOften ks (key ks j))
     count-is = words 1 (omega arith)
 
     place-is : place l low j ≡ key ks j
     place-is = ap (λ (z : ℤ). natAbs (z -ℤ low)) (offset-is ∙ +ℤ-comm low (pos (key ks j))) ∙ ap natAbs (+ℤ-negℤ-cancel (pos (key ks j)) low)
 
-    votes-are : votes l j ≡ votesAt ks (key ks j)
+    votes-are : votes l j ≡ howOften ks (key ks j)
     votes-are = ap natAbs count-is
 
 pub stored-binned : (s : List ℤ) (a g at middle : ℕ) → a + g ≤ at → at + 2 * g ≤ length s
@@ -69,10 +69,10 @@ stored-binned s a g at middle before room =
       some = λ h. occupied-some ks (omega (arith, all));
       offsets = λ j h. offset-is middle ks l written j h ∙ ap (λ (x : ℕ). negℤ (pos middle) +ℤ pos x) (sym (place-is middle ks l written j h));
       counts = λ j h. count-is middle ks l written j h ∙ ap pos (sym (votes-are middle ks l written j h));
-      occupied = λ j h. omega (arith, votes-are middle ks l written j h, all-at (λ k. 0 < votesAt ks k) (occupied ks) 0 (occupied-voted ks) j h);
+      occupied = λ j h. omega (arith, votes-are middle ks l written j h, all-at (λ k. 0 < howOften ks k) (occupied ks) 0 (occupied-voted ks) j h);
       ascend = λ i j h k. omega (arith, place-is middle ks l written i (omega arith), place-is middle ks l written j k, keys-up ks i j h k);
       spanned = λ most m j h. omega (arith, place-is middle ks l written j h, all-at (λ k. k ≤ most) (occupied ks) 0 (occupied-all (λ k. k ≤ most) ks (codes-each wangForm s a g (omega arith) (λ k. k ≤ most) m)) j h);
-      held = λ p. sum-cong (λ j. when (p (place l (negℤ (pos middle)) j)) (votes l j)) (λ j. when (p (key ks j)) (votesAt ks (key ks j))) (length (occupied ks))
+      held = λ p. sum-cong (λ j. when (p (place l (negℤ (pos middle)) j)) (votes l j)) (λ j. when (p (key ks j)) (howOften ks (key ks j))) (length (occupied ks))
           (λ j h. ap₂ (λ (x v : ℕ). when (p x) v) (place-is middle ks l written j h) (votes-are middle ks l written j h))
           ∙ keys-held ks (2 ^ 33) (codes-each wangForm s a g (omega arith) (λ k. k < 2 ^ 33) (λ t h. omega arith)) p ∙ count-words placeOf p s a g (omega arith);
     }

@@ -20,7 +20,7 @@ use Rattle.maps.specs.Sums.{sumTo, when}
 use Rattle.maps.specs.Lists.{countIf}
 use Rattle.maps.proofs.Sums.{sum-add, sum-cong, sum-none}
 use Rattle.maps.proofs.Lists.{count-append}
-use Rattle.bins.specs.Codes.{width, occupied, votesAt, binWords, binsOf}
+use Rattle.bins.specs.Codes.{width, occupied, howOften, binWords, binsOf}
 use Rattle.bins.specs.declared.Form.{Form}
 use Rattle.bins.proofs.Sparse.{Off, sparse-sum, one-of, when-none}
 
@@ -47,23 +47,23 @@ unfolding occupied
 occupied-ascend [] = tt
 occupied-ascend (k ∷ ks) = ascending-insertKey k (occupied ks) (occupied-ascend ks)
 
-pub occupied-member : (k : ℕ) (ks : List ℕ) → member k (occupied ks) ≡ ltb 0 (votesAt ks k)
+pub occupied-member : (k : ℕ) (ks : List ℕ) → member k (occupied ks) ≡ ltb 0 (howOften ks k)
 unfolding occupied countIf some?
 occupied-member k [] = refl
 occupied-member k (x ∷ ks) =
     let ih = occupied-member k ks in
     member-insertKey x k (occupied ks)
     ∙ test (eqb x k)
-    (λ e. rw e (sym (lt-ltb 0 (1 + votesAt ks k) (omega arith))))
-    (λ e. let z : 0 + votesAt ks k ≡ votesAt ks k = omega arith in rw (e, z) ih)
+    (λ e. rw e (sym (lt-ltb 0 (1 + howOften ks k) (omega arith))))
+    (λ e. let z : 0 + howOften ks k ≡ howOften ks k = omega arith in rw (e, z) ih)
 
 occupied-has : (k : ℕ) (ks : List ℕ) → member k (occupied ks) ≡ member k ks
 unfolding occupied some?
 occupied-has k [] = refl
 occupied-has k (x ∷ ks) = member-insertKey x k (occupied ks) ∙ ap (λ (b : Bool). eqb x k || b) (occupied-has k ks)
 
-pub occupied-voted : (ks : List ℕ) → All (λ k. 0 < votesAt ks k) (occupied ks)
-occupied-voted ks = all-of-key (λ k. k) (λ k. 0 < votesAt ks k) (occupied ks) (λ k m. ltb-true 0 (votesAt ks k) (sym (occupied-member k ks) ∙ m))
+pub occupied-voted : (ks : List ℕ) → All (λ k. 0 < howOften ks k) (occupied ks)
+occupied-voted ks = all-of-key (λ k. k) (λ k. 0 < howOften ks k) (occupied ks) (λ k m. ltb-true 0 (howOften ks k) (sym (occupied-member k ks) ∙ m))
 
 pub occupied-all : (P : ℕ → Type 0) (ks : List ℕ) → All P ks → All P (occupied ks)
 occupied-all P ks h = all-of-key (λ k. k) P (occupied ks) (λ k m. key-of-all (λ k. k) P ks h k (sym (occupied-has k ks) ∙ m))
@@ -99,16 +99,16 @@ when-add true m n = refl
 when-add false m n = refl
 
 -- over all numbers below w
-spread : (p : ℕ → Bool) (w : ℕ) (ks : List ℕ) → All (λ k. k < w) ks → sumTo (λ x. when (p x) (votesAt ks x)) w ≡ countIf p ks
+spread : (p : ℕ → Bool) (w : ℕ) (ks : List ℕ) → All (λ k. k < w) ks → sumTo (λ x. when (p x) (howOften ks x)) w ≡ countIf p ks
 unfolding countIf
 spread p w [] h = sum-none (λ x. when (p x) 0) w (λ x l. when-none (p x))
 spread p w (k ∷ ks) h =
     let ih = spread p w ks (h .1) in
     let here : ℕ → ℕ = λ x. when (p x) (when (eqb k x) 1) in
-    let a = sum-cong (λ x. when (p x) (votesAt (k ∷ ks) x)) (λ x. here x + when (p x) (votesAt ks x)) w (λ x l. when-add (p x) (when (eqb k x) 1) (votesAt ks x)) in
+    let a = sum-cong (λ x. when (p x) (howOften (k ∷ ks) x)) (λ x. here x + when (p x) (howOften ks x)) w (λ x l. when-add (p x) (when (eqb k x) 1) (howOften ks x)) in
     let b = one-of here w k (h .0) (λ x l ne. ap (λ (t : Bool). when (p x) (when t 1)) (ne-eqb k x (λ e. ne (sym e))) ∙ when-none (p x)) in
     let c : here k ≡ when (p k) 1 = ap (λ (t : Bool). when (p k) (when t 1)) (eq-eqb k k refl) in
-    omega (arith, a, b, c, ih, sum-add here (λ x. when (p x) (votesAt ks x)) w)
+    omega (arith, a, b, c, ih, sum-add here (λ x. when (p x) (howOften ks x)) w)
 
 module _ (ks : List ℕ) where
   -- code j, and how many there are
@@ -121,15 +121,15 @@ module _ (ks : List ℕ) where
   pub keys-up : (i j : ℕ) → i < j → j < keys → key i < key j
   keys-up i j h k = ascending-at (λ k. k) (occupied ks) 0 (occupied-ascend ks) i j h k
 
-  off : (x : ℕ) → Off key keys x → votesAt ks x ≡ 0
+  off : (x : ℕ) → Off key keys x → howOften ks x ≡ 0
   off x o =
       let m = some-none (λ k. eqb k x) (occupied ks) (all-make (λ k. eqb k x ≡ false) (occupied ks) 0 (λ j l. ne-eqb (key j) x (o j l))) in
-      omega (arith, ltb-false 0 (votesAt ks x) (sym (occupied-member x ks) ∙ m))
+      omega (arith, ltb-false 0 (howOften ks x) (sym (occupied-member x ks) ∙ m))
 
   -- whatever is asked of a code, as many votes pass
-  pub keys-held : (w : ℕ) → All (λ k. k < w) ks → (p : ℕ → Bool) → sumTo (λ j. when (p (key j)) (votesAt ks (key j))) keys ≡ countIf p ks
+  pub keys-held : (w : ℕ) → All (λ k. k < w) ks → (p : ℕ → Bool) → sumTo (λ j. when (p (key j)) (howOften ks (key j))) keys ≡ countIf p ks
   keys-held w h p =
-      sym (sparse-sum key w keys (record { asc = keys-up; top = all-at (λ k. k < w) (occupied ks) 0 (occupied-all (λ k. k < w) ks h) }) (λ x. when (p x) (votesAt ks x))
+      sym (sparse-sum key w keys (record { asc = keys-up; top = all-at (λ k. k < w) (occupied ks) 0 (occupied-all (λ k. k < w) ks h) }) (λ x. when (p x) (howOften ks x))
       (λ x l o. ap (when (p x)) (off x o) ∙ when-none (p x)))
       ∙ spread p w ks h
 
@@ -154,8 +154,8 @@ words-length f middle k c = test (f .scaled) (λ e. rw e refl) (λ e. rw e refl)
 pub bins-length : (f : Form) (middle : ℕ) (ks : List ℕ) → length (binsOf f middle ks) ≡ width f * length (occupied ks)
 unfolding binsOf
 bins-length f middle ks =
-    let b : ℕ → List ℤ = λ k. binWords f middle k (votesAt ks k) in
-    length-flat (width f) (map b (occupied ks)) (all-map b (λ e. length e ≡ width f) (occupied ks) (all-of (λ k. length (b k) ≡ width f) (λ k. words-length f middle k (votesAt ks k)) (occupied ks)))
+    let b : ℕ → List ℤ = λ k. binWords f middle k (howOften ks k) in
+    length-flat (width f) (map b (occupied ks)) (all-map b (λ e. length e ≡ width f) (occupied ks) (all-of (λ k. length (b k) ≡ width f) (λ k. words-length f middle k (howOften ks k)) (occupied ks)))
     ∙ ap (λ (n : ℕ). width f * n) (lib.ListN.length-map (occupied ks) b)
 
 -- word t of a bin; every bin has w words
@@ -169,9 +169,9 @@ flat-at w b wide (k ∷ ks) (suc i) t h l =
     rw e (getD-append-add (b k) (flat (map b ks)) (w * i + t) (pos 0) ∙ ih)
 
 pub bins-at : (f : Form) (middle : ℕ) (ks : List ℕ) (i t : ℕ) → i < length (occupied ks) → t < width f
-    → getD (binsOf f middle ks) (width f * i + t) (pos 0) ≡ getD (binWords f middle (getD (occupied ks) i 0) (votesAt ks (getD (occupied ks) i 0))) t (pos 0)
+    → getD (binsOf f middle ks) (width f * i + t) (pos 0) ≡ getD (binWords f middle (getD (occupied ks) i 0) (howOften ks (getD (occupied ks) i 0))) t (pos 0)
 unfolding binsOf
-bins-at f middle ks i t h l = flat-at (width f) (λ k. binWords f middle k (votesAt ks k)) (λ k. words-length f middle k (votesAt ks k)) (occupied ks) i t h l
+bins-at f middle ks i t h l = flat-at (width f) (λ k. binWords f middle k (howOften ks k)) (λ k. words-length f middle k (howOften ks k)) (occupied ks) i t h l
 
 -- ---- votes us of one code x behind votes ks of lower codes
 
@@ -195,12 +195,12 @@ module _ (x : ℕ) (us : List ℕ) (one : All (λ k. k ≡ x) us) (some : 0 < le
   occupied-run (k ∷ ks) h = ap (insertKey k) (occupied-run ks (h .1)) ∙ insert-before k x (occupied ks) (h .0)
 
   module _ (ks : List ℕ) (below : All (λ k. k < x) ks) where
-    old : (k : ℕ) → k < x → votesAt (ks ++ us) k ≡ votesAt ks k
+    old : (k : ℕ) → k < x → howOften (ks ++ us) k ≡ howOften ks k
     old k h =
         let p : ℕ → Bool = λ y. eqb y k in
         omega (arith, count-append p ks us, count-none p us (all-imp (λ y. y ≡ x) (λ y. p y ≡ false) (λ y c. ne-eqb y k (λ d. omega arith)) us one))
 
-    new : votesAt (ks ++ us) x ≡ length us
+    new : howOften (ks ++ us) x ≡ length us
     new =
         let p : ℕ → Bool = λ y. eqb y x in
         let a = count-none p ks (all-imp (λ y. y < x) (λ y. p y ≡ false) (λ y c. ne-eqb y x (λ d. omega arith)) ks below) in
@@ -210,8 +210,8 @@ module _ (x : ℕ) (us : List ℕ) (one : All (λ k. k ≡ x) us) (some : 0 < le
     pub bins-run : (f : Form) (middle : ℕ) → binsOf f middle (ks ++ us) ≡ binsOf f middle ks ++ binWords f middle x (length us)
     unfolding binsOf
     bins-run f middle =
-        let b : ℕ → List ℤ = λ k. binWords f middle k (votesAt (ks ++ us) k) in
-        let b₀ : ℕ → List ℤ = λ k. binWords f middle k (votesAt ks k) in
+        let b : ℕ → List ℤ = λ k. binWords f middle k (howOften (ks ++ us) k) in
+        let b₀ : ℕ → List ℤ = λ k. binWords f middle k (howOften ks k) in
         ap (λ (l : List ℕ). flat (map b l)) (occupied-run ks below)
         ∙ ap flat (map-append b (occupied ks) (x ∷ []))
         ∙ flat-append (map b (occupied ks)) (b x ∷ [])

@@ -50,8 +50,8 @@ occupied [] = []
 occupied (k ∷ ks) = insertKey k (occupied ks)
 
 -- how often k is among them
-abbrev pub votesAt : List ℕ → ℕ → ℕ
-votesAt ks k = countIf (λ x. eqb x k) ks
+abbrev pub howOften : List ℕ → ℕ → ℕ
+howOften ks k = countIf (λ x. eqb x k) ks
 
 -- ---- bins as words
 
@@ -65,7 +65,7 @@ binWords f middle k c = cond (f .scaled) (pos (k / 2 ^ 40) ∷ offsetWords middl
 
 -- those of all occupied codes
 unfoldable pub binsOf : Form → ℕ → List ℕ → List ℤ
-binsOf f middle ks = flat (map (λ k. binWords f middle k (votesAt ks k)) (occupied ks))
+binsOf f middle ks = flat (map (λ k. binWords f middle k (howOften ks k)) (occupied ks))
 
 -- words stored from word j on
 abbrev pub stored : List ℤ → ℕ → List ℤ → List ℤ

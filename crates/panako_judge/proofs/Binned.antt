@@ -19,7 +19,7 @@ use Rattle.hough.specs.Hough.{scale, votes}
 use Rattle.hough.specs.Limits.{Bins}
 use Rattle.panako_vote.specs.Words.{middle, voteOfCode}
 use Rattle.panako_judge.specs.Judge.{panakoForm}
-use Rattle.bins.specs.Codes.{occupied, votesAt, binsOf}
+use Rattle.bins.specs.Codes.{occupied, howOften, binsOf}
 use Rattle.bins.proofs.Occupied.{length-counts, occupied-all, occupied-few, key, keys-up, keys-held, bins-length, bins-at}
 
 -- ---- the order of bins
@@ -49,13 +49,13 @@ module _ (ks : List ℕ) where
     offset-at : getD bins (3 * i + 1) (pos 0) ≡ voteOfCode (key ks i) .offset
     offset-at = bins-at panakoForm middle ks i 1 h (omega arith)
 
-    count-at : getD bins (3 * i + 2) (pos 0) ≡ pos (votesAt ks (key ks i))
+    count-at : getD bins (3 * i + 2) (pos 0) ≡ pos (howOften ks (key ks i))
     count-at = bins-at panakoForm middle ks i 2 h (omega arith)
 
     scale-is : scale bins i ≡ key ks i / 2 ^ 40
     scale-is = ap natAbs scale-at
 
-    votes-are : votes bins i ≡ votesAt ks (key ks i)
+    votes-are : votes bins i ≡ howOften ks (key ks i)
     votes-are = ap natAbs count-at
 
   pub bins-taken : All (λ k. k < 2 ^ 52) ks → length ks ≤ 1000000 → Bins bins (length (occupied ks))
@@ -68,5 +68,5 @@ module _ (ks : List ℕ) where
         close = λ i h. rw (offset-at i h) (offset-close (key ks i));
         counted = λ i h. rw (count-at i h) tt;
         ascend = λ i h. rw (offset-at i (omega arith), offset-at (i + 1) h, scale-is i (omega arith), scale-is (i + 1) h) (order (key ks i) (key ks (i + 1)) (keys-up ks i (i + 1) (omega arith) h));
-        sum = omega (arith, sum-cong (votes bins) (λ i. votesAt ks (key ks i)) (length (occupied ks)) votes-are, keys-held ks (2 ^ 52) small (λ k. true), length-counts ks);
+        sum = omega (arith, sum-cong (votes bins) (λ i. howOften ks (key ks i)) (length (occupied ks)) votes-are, keys-held ks (2 ^ 52) small (λ k. true), length-counts ks);
       }

@@ -25,7 +25,7 @@ use Rattle.panako_vote.specs.Words.{middle, codeOf}
 use Rattle.panako_judge.specs.Judge.{panakoForm, binCount, seenOf, thresholdsOf, atPeak, resultOf}
 use Rattle.panako_judge.specs.Candidates.{voteIn, votesIn, Binned}
 use Rattle.panako_judge.specs.declared.PanakoQuery.{PanakoQuery}
-use Rattle.panako_judge.proofs.Codes.{code-back}
+use Rattle.panako_vote.proofs.Words.{code-back}
 use Rattle.panako_judge.proofs.Binned.{bins-taken}
 
 module _ (s : List ℤ) (a g : ℕ) (fits : a + g ≤ length s) where
