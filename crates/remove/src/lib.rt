@@ -26,7 +26,8 @@ pub enum Removal {
 // How many recordings are live.
 pub fn live_count(refs: &[u32], posts: &[u32], stops: &[u32], w: usize) -> LiveCount
     requires { ⌜ (3 ≤ w) × (w ≤ 5) ⌝ }
-    ensures { λ r. ⌜ (countAnswer r, lent (refs .entry) (posts .entry) (stops .entry)) ≡ runCount w (lent (refs .entry) (posts .entry) (stops .entry)) ⌝ }
+    ensures { λ r. ⌜ (countAnswer r, lent (refs .entry) (posts .entry) (stops .entry))
+        ≡ runCount w (lent (refs .entry) (posts .entry) (stops .entry)) ⌝ }
 {
     let r = refusal_of(refs, posts, stops, w);
     if r != 0 {
@@ -75,7 +76,8 @@ fn erase(refs: &mut [u32], posts: &mut [u32], w: usize, id: u32)
 // A recording goes.
 pub fn remove(refs: &mut [u32], posts: &mut [u32], stops: &[u32], w: usize, id: u32) -> Removal
     requires { ⌜ (3 ≤ w) × (w ≤ 5) ⌝ }
-    ensures { λ r. ⌜ (removalAnswer r, lent (refs .exit) (posts .exit) (stops .entry)) ≡ runRemove w (lent (refs .entry) (posts .entry) (stops .entry)) id ⌝ }
+    ensures { λ r. ⌜ (removalAnswer r, lent (refs .exit) (posts .exit) (stops .entry))
+        ≡ runRemove w (lent (refs .entry) (posts .entry) (stops .entry)) id ⌝ }
 {
     let r = refusal_of(refs, posts, stops, w);
     if r != 0 {
