@@ -23,9 +23,9 @@ use Rattle.build_entries.proofs.Placing.{Names, place-small, order-names}
 use Rattle.model.specs.Fingerprints.{Fingerprint, hashesOf, fingerprintsOf, hashCount, uneven, malformedBuild, referenceMost}
 use Rattle.model.specs.Rows.{rowOf}
 use Rattle.model.specs.Index.{empty, numbered, builtFrom, postingsAfter, stoppedAfter}
-use Rattle.model.specs.Calls.{Store, holds, isUnlisted, Answer, built, refused, Outcome, outcome, refusal, buildTests, buildStep}
+use Rattle.model.specs.Calls.{Store, holds, isUnlisted, Answer, built, refused, outcome, refusal, buildTests, buildStep}
 use Rattle.model.specs.Words.{Words, sizesOf, slicesListed, write, postingWords, rowEntries}
-use Rattle.model.specs.Run.{storeOf, laidOut, runBuild}
+use Rattle.model.specs.Run.{storeOf, onWords, runBuild}
 use Rattle.model.proofs.Stores.{references-long, postings-long, stopped-long, store-again}
 use Rattle.model.proofs.Fingerprints.{length-divided, length-numbered}
 use Rattle.model.specs.Soundness.{soundWords}
@@ -213,12 +213,12 @@ module _ (w : ℕ) (refs posts stops : List ℕ) (limit : ℕ) (hashes lengths r
   pub stopped-laid : overKeys limit (keysOf (laidEntries hashes w lengths)) ≡ stoppedAfter limit empty (numbered 0 (fingerprintsOf w hashes lengths rates))
   stopped-laid = ap (λ l. overKeys limit (keysOf l)) (laid-is hashes w lengths rates w3 fit summed rated) ∙ stopped-is limit (numbered 0 all)
 
-  -- the three slices, as the model lays them out
+  -- built, and the three slices as the model lays them out
   pub written : (refs′ posts′ stops′ : List ℕ) (p k : ℕ) → p ≡ length (kept limit (laidEntries hashes w lengths)) → k ≡ length (overKeys limit (keysOf (laidEntries hashes w lengths)))
       → refs′ ≡ padded (length refs) (length lengths ∷ 0 ∷ p ∷ k ∷ flat (rowsFor hashes w lengths rates))
       → posts′ ≡ padded (length posts) (flat (kept limit (laidEntries hashes w lengths)))
       → stops′ ≡ padded (length stops) (overKeys limit (keysOf (laidEntries hashes w lengths)))
-      → words refs′ posts′ stops′ ≡ runBuild w (words refs posts stops) limit hashes lengths rates .1
+      → (built, words refs′ posts′ stops′) ≡ runBuild w (words refs posts stops) limit hashes lengths rates
   unfolding runBuild buildStep builtFrom write
   written refs′ posts′ stops′ p k ep ek er es et =
       let x = builtFrom w limit all in
@@ -230,15 +230,7 @@ module _ (w : ℕ) (refs posts stops : List ℕ) (limit : ℕ) (hashes lengths r
       let e2 : posts′ ≡ write w (sizesOf w m) x .postings = es ∙ (λ i. padded (postings-long w m (omega arith) (a .listed-is) i) (flat (kept-laid i))) in
       let e3 : stops′ ≡ write w (sizesOf w m) x .stopped = et ∙ (λ i. padded (stopped-long w m (omega arith) (a .listed-is) i) (stopped-laid i)) in
       let o = a .none-is in
-      (λ i. record { references = e1 i; postings = e2 i; stopped = e3 i }) ∙ rw o
-
-  pub answered : built ≡ runBuild w (words refs posts stops) limit hashes lengths rates .0
-  unfolding runBuild buildStep
-  answered = rw (a .none-is)
-
--- stores are the same slice by slice
-pub slices : (m n : Words) → m ≡ n → (m .references ≡ n .references) × ((m .postings ≡ n .postings) × (m .stopped ≡ n .stopped))
-slices m n e = (ap (λ (x : Words). x .references) e, (ap (λ (x : Words). x .postings) e, ap (λ (x : Words). x .stopped) e))
+      (λ i. (built, words (e1 i) (e2 i) (e3 i))) ∙ rw o
 
 -- a refused build
 module _ (w : ℕ) (m : Words) (limit : ℕ) (hashes lengths rates : List ℕ) (n : ℕ) (e : n ≡ buildRefusal w m limit hashes lengths rates) (h : n ≡ 0 → ⊥) where
@@ -249,13 +241,9 @@ module _ (w : ℕ) (m : Words) (limit : ℕ) (hashes lengths rates : List ℕ) (
   unfolding buildRefusal
   whole = refused-is o (storeOf w m) (holds (builtFrom w limit (fingerprintsOf w hashes lengths rates))) built n e h
 
-  pub refused-answer : refused n ≡ runBuild w m limit hashes lengths rates .0
+  pub refused-run : 2 ≤ w → (refused n, m) ≡ runBuild w m limit hashes lengths rates
   unfolding runBuild buildStep
-  refused-answer = sym (ap (λ (x : Outcome). x .0) whole)
-
-  pub refused-words : 2 ≤ w → m ≡ runBuild w m limit hashes lengths rates .1
-  unfolding runBuild buildStep
-  refused-words w2 = sym (ap (λ (x : Outcome). laidOut w m (x .1)) whole ∙ store-again w m w2)
+  refused-run w2 = sym (ap (onWords w m) whole ∙ ap (λ (x : Words). (refused n, x)) (store-again w m w2))
 
 -- ---- the tests of `refusal_of`
 

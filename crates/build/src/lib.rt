@@ -12,7 +12,7 @@ ghost use Rattle.build_stops.specs.Over.{overKeys, keysOf, kept};
 ghost use Rattle.build_entries.specs.Laid.{laidEntries};
 ghost use Rattle.model.specs.Fingerprints.{malformedBuild, referenceMost};
 ghost use Rattle.model.specs.Run.{runBuild};
-ghost use Rattle.soundness.specs.Scan.{words};
+ghost use Rattle.soundness.specs.Scan.{words, lent};
 ghost use Rattle.build.specs.Answers.{buildingAnswer, buildRefusal, rowsFor};
 use build_stops::Left;
 use postings::at;
@@ -152,10 +152,8 @@ pub fn build(
     limit: u32,
 ) -> Building
     requires { ⌜ (3 ≤ w) × (w ≤ 5) ⌝ }
-    ensures { λ r. ⌜ buildingAnswer r ≡ runBuild w (words (now (refs .entry)) (now (posts .entry)) (now (stops .entry))) limit (now (hashes .entry)) (now (lengths .entry)) (now (rates .entry)) .0 ⌝ }
-    ensures { λ _. ⌜ now (refs .exit) ≡ runBuild w (words (now (refs .entry)) (now (posts .entry)) (now (stops .entry))) limit (now (hashes .entry)) (now (lengths .entry)) (now (rates .entry)) .1 .references ⌝ }
-    ensures { λ _. ⌜ now (posts .exit) ≡ runBuild w (words (now (refs .entry)) (now (posts .entry)) (now (stops .entry))) limit (now (hashes .entry)) (now (lengths .entry)) (now (rates .entry)) .1 .postings ⌝ }
-    ensures { λ _. ⌜ now (stops .exit) ≡ runBuild w (words (now (refs .entry)) (now (posts .entry)) (now (stops .entry))) limit (now (hashes .entry)) (now (lengths .entry)) (now (rates .entry)) .1 .stopped ⌝ }
+    ensures { λ r. ⌜ (buildingAnswer r, lent (refs .exit) (posts .exit) (stops .exit))
+        ≡ runBuild w (lent (refs .entry) (posts .entry) (stops .entry)) limit (now (hashes .entry)) (now (lengths .entry)) (now (rates .entry)) ⌝ }
 {
     let n = refusal_of(refs, posts, stops, hashes, lengths, rates, w, limit);
     if n != 0 {

@@ -1,10 +1,13 @@
 -- How the C interface writes the answers of the calls: the case first, then its values, unused words 0. Definitions only. Assumes nothing.
 use mathlib.Core.List.{List, [], _∷_}
 use Prim.Native.Nat.{ℕ}
+use lib.IntN.{ℤ}
 use lib.Ieee.{binary32, toBits}
 use Rattle.matching.specs.declared.MatchResult.{MatchResult}
 use Rattle.model.specs.Calls.{Answer, built, stored, removed, count, best, nothing, refused}
 use Rattle.model.specs.Query.{Query}
+use Rattle.model.specs.Words.{Words}
+use Rattle.query_rank.specs.Answers.{scratchAfter}
 use Rattle.wang_judge.specs.Scheme.{configOf, wang}
 use Rattle.wang_query.specs.Arguments.{queryWith}
 use Rattle.panako_vote.specs.declared.PanakoMatchConfig.{PanakoMatchConfig}
@@ -29,6 +32,13 @@ answerWords (count n) = caseWords 3 n
 answerWords (best id r) = bestWords id r
 answerWords nothing = caseWords 5 0
 answerWords (refused n) = caseWords 6 n
+
+-- what a call answers, as words, and leaves; of a query also the scratch, from what it was
+abbrev pub inWords : Answer × Words → List ℕ × Words
+inWords o = (answerWords (o .0), o .1)
+
+abbrev pub inWordsWith : List ℤ → Answer × Words → List ℕ × (Words × List ℤ)
+inWordsWith s o = (answerWords (o .0), (o .1, scratchAfter (o .0) s))
 
 -- ---- a Wang query's settings, as words
 

@@ -3,14 +3,14 @@ ghost use mathlib.Core.Path.{_≡_};
 ghost use lib.ListN.{length};
 ghost use Rattle.model.specs.Calls.{build, insert, remove, liveCount, query};
 ghost use Rattle.model.specs.Run.{run};
-ghost use Rattle.soundness.specs.Scan.{words};
+ghost use Rattle.soundness.specs.Scan.{lent};
 ghost use Rattle.build.specs.Answers.{buildingAnswer};
 ghost use Rattle.insert.specs.Insert.{insertionAnswer};
 ghost use Rattle.remove.specs.Answers.{countAnswer, removalAnswer};
-ghost use Rattle.query_rank.specs.Answers.{findingAnswer, scratchAfter};
+ghost use Rattle.query_rank.specs.Answers.{findingAnswer};
 ghost use Rattle.wang_judge.specs.Scheme.{wang};
 ghost use Rattle.panako_judge.specs.Scheme.{panako};
-ghost use Rattle.capi.specs.Answers.{bestWords, answerWords, wangAsked, panakoConfig, panakoAsked};
+ghost use Rattle.capi.specs.Answers.{bestWords, answerWords, inWords, inWordsWith, wangAsked, panakoConfig, panakoAsked};
 use build::Building;
 use insert::Insertion;
 use matching::MatchResult;
@@ -127,10 +127,8 @@ pub extern "C" fn wang_index_build(
     limit: u32,
     answer: &mut [u64; 8],
 )
-    ensures { λ _. ⌜ now (answer .exit) ≡ answerWords (run wang (words (now (refs .entry)) (now (postings .entry)) (now (stopped .entry))) (build limit (now (hashes .entry)) (now (lengths .entry)) (now (rates .entry))) .0) ⌝ }
-    ensures { λ _. ⌜ now (refs .exit) ≡ run wang (words (now (refs .entry)) (now (postings .entry)) (now (stopped .entry))) (build limit (now (hashes .entry)) (now (lengths .entry)) (now (rates .entry))) .1 .references ⌝ }
-    ensures { λ _. ⌜ now (postings .exit) ≡ run wang (words (now (refs .entry)) (now (postings .entry)) (now (stopped .entry))) (build limit (now (hashes .entry)) (now (lengths .entry)) (now (rates .entry))) .1 .postings ⌝ }
-    ensures { λ _. ⌜ now (stopped .exit) ≡ run wang (words (now (refs .entry)) (now (postings .entry)) (now (stopped .entry))) (build limit (now (hashes .entry)) (now (lengths .entry)) (now (rates .entry))) .1 .stopped ⌝ }
+    ensures { λ _. ⌜ (now (answer .exit), lent (refs .exit) (postings .exit) (stopped .exit))
+        ≡ inWords (run wang (lent (refs .entry) (postings .entry) (stopped .entry)) (build limit (now (hashes .entry)) (now (lengths .entry)) (now (rates .entry)))) ⌝ }
 {
     put_building(
         answer,
@@ -148,10 +146,8 @@ pub extern "C" fn wang_index_insert(
     limit: u32,
     answer: &mut [u64; 8],
 )
-    ensures { λ _. ⌜ now (answer .exit) ≡ answerWords (run wang (words (now (refs .entry)) (now (postings .entry)) (now (stopped .entry))) (insert limit rate (now (hashes .entry))) .0) ⌝ }
-    ensures { λ _. ⌜ now (refs .exit) ≡ run wang (words (now (refs .entry)) (now (postings .entry)) (now (stopped .entry))) (insert limit rate (now (hashes .entry))) .1 .references ⌝ }
-    ensures { λ _. ⌜ now (postings .exit) ≡ run wang (words (now (refs .entry)) (now (postings .entry)) (now (stopped .entry))) (insert limit rate (now (hashes .entry))) .1 .postings ⌝ }
-    ensures { λ _. ⌜ now (stopped .exit) ≡ run wang (words (now (refs .entry)) (now (postings .entry)) (now (stopped .entry))) (insert limit rate (now (hashes .entry))) .1 .stopped ⌝ }
+    ensures { λ _. ⌜ (now (answer .exit), lent (refs .exit) (postings .exit) (stopped .exit))
+        ≡ inWords (run wang (lent (refs .entry) (postings .entry) (stopped .entry)) (insert limit rate (now (hashes .entry)))) ⌝ }
 {
     put_insertion(
         answer,
@@ -167,10 +163,8 @@ pub extern "C" fn wang_index_remove(
     id: u32,
     answer: &mut [u64; 8],
 )
-    ensures { λ _. ⌜ now (answer .exit) ≡ answerWords (run wang (words (now (refs .entry)) (now (postings .entry)) (now (stopped .entry))) (remove id) .0) ⌝ }
-    ensures { λ _. ⌜ now (refs .exit) ≡ run wang (words (now (refs .entry)) (now (postings .entry)) (now (stopped .entry))) (remove id) .1 .references ⌝ }
-    ensures { λ _. ⌜ now (postings .exit) ≡ run wang (words (now (refs .entry)) (now (postings .entry)) (now (stopped .entry))) (remove id) .1 .postings ⌝ }
-    ensures { λ _. ⌜ now (stopped .exit) ≡ run wang (words (now (refs .entry)) (now (postings .entry)) (now (stopped .entry))) (remove id) .1 .stopped ⌝ }
+    ensures { λ _. ⌜ (now (answer .exit), lent (refs .exit) (postings .exit) (stopped .exit))
+        ≡ inWords (run wang (lent (refs .entry) (postings .entry) (stopped .entry)) (remove id)) ⌝ }
 {
     put_removal(answer, WangIndex::remove(refs, postings, stopped, id));
 }
@@ -182,7 +176,8 @@ pub extern "C" fn wang_index_live_count(
     stopped: &[u32],
     answer: &mut [u64; 8],
 )
-    ensures { λ _. ⌜ now (answer .exit) ≡ answerWords (run wang (words (now (refs .entry)) (now (postings .entry)) (now (stopped .entry))) liveCount .0) ⌝ }
+    ensures { λ _. ⌜ (now (answer .exit), lent (refs .entry) (postings .entry) (stopped .entry))
+        ≡ inWords (run wang (lent (refs .entry) (postings .entry) (stopped .entry)) liveCount) ⌝ }
 {
     put_count(answer, WangIndex::live_count(refs, postings, stopped));
 }
@@ -201,8 +196,9 @@ pub extern "C" fn wang_index_query(
     min_prominence: u32,
     answer: &mut [u64; 8],
 )
-    ensures { λ _. ⌜ now (answer .exit) ≡ answerWords (run wang (words (now (refs .entry)) (now (postings .entry)) (now (stopped .entry))) (query (wangAsked (now (hashes .entry)) rate tolerance «min_votes» «min_score» «min_prominence» (length (now (scratch .entry))))) .0) ⌝ }
-    ensures { λ _. ⌜ now (scratch .exit) ≡ scratchAfter (run wang (words (now (refs .entry)) (now (postings .entry)) (now (stopped .entry))) (query (wangAsked (now (hashes .entry)) rate tolerance «min_votes» «min_score» «min_prominence» (length (now (scratch .entry))))) .0) (now (scratch .entry)) ⌝ }
+    ensures { λ _. ⌜ (now (answer .exit), (lent (refs .entry) (postings .entry) (stopped .entry), now (scratch .exit)))
+        ≡ inWordsWith (now (scratch .entry)) (run wang (lent (refs .entry) (postings .entry) (stopped .entry))
+        (query (wangAsked (now (hashes .entry)) rate tolerance «min_votes» «min_score» «min_prominence» (length (now (scratch .entry)))))) ⌝ }
 {
     let cfg = wang_judge::config_of(tolerance, min_votes, min_score, min_prominence);
     let fps = floats::f32_from_bits(rate);
@@ -223,10 +219,8 @@ pub extern "C" fn panako_index_build(
     limit: u32,
     answer: &mut [u64; 8],
 )
-    ensures { λ _. ⌜ now (answer .exit) ≡ answerWords (run panako (words (now (refs .entry)) (now (postings .entry)) (now (stopped .entry))) (build limit (now (hashes .entry)) (now (lengths .entry)) (now (rates .entry))) .0) ⌝ }
-    ensures { λ _. ⌜ now (refs .exit) ≡ run panako (words (now (refs .entry)) (now (postings .entry)) (now (stopped .entry))) (build limit (now (hashes .entry)) (now (lengths .entry)) (now (rates .entry))) .1 .references ⌝ }
-    ensures { λ _. ⌜ now (postings .exit) ≡ run panako (words (now (refs .entry)) (now (postings .entry)) (now (stopped .entry))) (build limit (now (hashes .entry)) (now (lengths .entry)) (now (rates .entry))) .1 .postings ⌝ }
-    ensures { λ _. ⌜ now (stopped .exit) ≡ run panako (words (now (refs .entry)) (now (postings .entry)) (now (stopped .entry))) (build limit (now (hashes .entry)) (now (lengths .entry)) (now (rates .entry))) .1 .stopped ⌝ }
+    ensures { λ _. ⌜ (now (answer .exit), lent (refs .exit) (postings .exit) (stopped .exit))
+        ≡ inWords (run panako (lent (refs .entry) (postings .entry) (stopped .entry)) (build limit (now (hashes .entry)) (now (lengths .entry)) (now (rates .entry)))) ⌝ }
 {
     put_building(
         answer,
@@ -244,10 +238,8 @@ pub extern "C" fn panako_index_insert(
     limit: u32,
     answer: &mut [u64; 8],
 )
-    ensures { λ _. ⌜ now (answer .exit) ≡ answerWords (run panako (words (now (refs .entry)) (now (postings .entry)) (now (stopped .entry))) (insert limit rate (now (hashes .entry))) .0) ⌝ }
-    ensures { λ _. ⌜ now (refs .exit) ≡ run panako (words (now (refs .entry)) (now (postings .entry)) (now (stopped .entry))) (insert limit rate (now (hashes .entry))) .1 .references ⌝ }
-    ensures { λ _. ⌜ now (postings .exit) ≡ run panako (words (now (refs .entry)) (now (postings .entry)) (now (stopped .entry))) (insert limit rate (now (hashes .entry))) .1 .postings ⌝ }
-    ensures { λ _. ⌜ now (stopped .exit) ≡ run panako (words (now (refs .entry)) (now (postings .entry)) (now (stopped .entry))) (insert limit rate (now (hashes .entry))) .1 .stopped ⌝ }
+    ensures { λ _. ⌜ (now (answer .exit), lent (refs .exit) (postings .exit) (stopped .exit))
+        ≡ inWords (run panako (lent (refs .entry) (postings .entry) (stopped .entry)) (insert limit rate (now (hashes .entry)))) ⌝ }
 {
     put_insertion(
         answer,
@@ -263,10 +255,8 @@ pub extern "C" fn panako_index_remove(
     id: u32,
     answer: &mut [u64; 8],
 )
-    ensures { λ _. ⌜ now (answer .exit) ≡ answerWords (run panako (words (now (refs .entry)) (now (postings .entry)) (now (stopped .entry))) (remove id) .0) ⌝ }
-    ensures { λ _. ⌜ now (refs .exit) ≡ run panako (words (now (refs .entry)) (now (postings .entry)) (now (stopped .entry))) (remove id) .1 .references ⌝ }
-    ensures { λ _. ⌜ now (postings .exit) ≡ run panako (words (now (refs .entry)) (now (postings .entry)) (now (stopped .entry))) (remove id) .1 .postings ⌝ }
-    ensures { λ _. ⌜ now (stopped .exit) ≡ run panako (words (now (refs .entry)) (now (postings .entry)) (now (stopped .entry))) (remove id) .1 .stopped ⌝ }
+    ensures { λ _. ⌜ (now (answer .exit), lent (refs .exit) (postings .exit) (stopped .exit))
+        ≡ inWords (run panako (lent (refs .entry) (postings .entry) (stopped .entry)) (remove id)) ⌝ }
 {
     put_removal(answer, PanakoIndex::remove(refs, postings, stopped, id));
 }
@@ -278,7 +268,8 @@ pub extern "C" fn panako_index_live_count(
     stopped: &[u32],
     answer: &mut [u64; 8],
 )
-    ensures { λ _. ⌜ now (answer .exit) ≡ answerWords (run panako (words (now (refs .entry)) (now (postings .entry)) (now (stopped .entry))) liveCount .0) ⌝ }
+    ensures { λ _. ⌜ (now (answer .exit), lent (refs .entry) (postings .entry) (stopped .entry))
+        ≡ inWords (run panako (lent (refs .entry) (postings .entry) (stopped .entry)) liveCount) ⌝ }
 {
     put_count(answer, PanakoIndex::live_count(refs, postings, stopped));
 }
@@ -323,8 +314,9 @@ pub extern "C" fn panako_index_query(
     min_prominence: u32,
     answer: &mut [u64; 8],
 )
-    ensures { λ _. ⌜ now (answer .exit) ≡ answerWords (run panako (words (now (refs .entry)) (now (postings .entry)) (now (stopped .entry))) (query (panakoAsked (now (hashes .entry)) rate «scale_min» «scale_max» «scale_bins» tolerance «min_votes» «min_score» «min_prominence» (length (now (scratch .entry))))) .0) ⌝ }
-    ensures { λ _. ⌜ now (scratch .exit) ≡ scratchAfter (run panako (words (now (refs .entry)) (now (postings .entry)) (now (stopped .entry))) (query (panakoAsked (now (hashes .entry)) rate «scale_min» «scale_max» «scale_bins» tolerance «min_votes» «min_score» «min_prominence» (length (now (scratch .entry))))) .0) (now (scratch .entry)) ⌝ }
+    ensures { λ _. ⌜ (now (answer .exit), (lent (refs .entry) (postings .entry) (stopped .entry), now (scratch .exit)))
+        ≡ inWordsWith (now (scratch .entry)) (run panako (lent (refs .entry) (postings .entry) (stopped .entry))
+        (query (panakoAsked (now (hashes .entry)) rate «scale_min» «scale_max» «scale_bins» tolerance «min_votes» «min_score» «min_prominence» (length (now (scratch .entry)))))) ⌝ }
 {
     let cfg = panako_config(
         scale_min,

@@ -20,7 +20,7 @@ use Rattle.lists.proofs.Entries.{length-read, read-at}
 use Rattle.model.specs.Fingerprints.{fingerprintOf, hashesOf, hashCount, uneven, malformed, referenceMost}
 use Rattle.model.specs.Rows.{hasRmax, largestAnchor, canonical, rowOf}
 use Rattle.model.specs.Index.{Index, keyOf, posted, unskipped, isStopped, stoppedAfter, postingsAfter, newId, inserted}
-use Rattle.model.specs.Calls.{Sizes, Answer, stored, refused}
+use Rattle.model.specs.Calls.{Sizes, stored, refused}
 use Rattle.model.specs.Words.{Words, sizesOf, sizesListed, between, slicesListed, write, postingWords, readRow, readVacant, readPosting, readIndex}
 use Rattle.model.specs.Sound.{Sound}
 use Rattle.model.specs.Soundness.{rowWord, soundWords}
@@ -29,6 +29,7 @@ use Rattle.model.proofs.Facts.{Facts}
 use Rattle.model.proofs.Written.{row-word, fewer}
 use Rattle.model.proofs.Stores.{references-long, postings-long, sizes-listed, sound-facts, sound-read, sound-again}
 use Rattle.postings.specs.Retain.{unnamed, staying}
+use Rattle.soundness.specs.Scan.{words}
 use Rattle.insert_merge.specs.Order.{upTo, unstoppedAt, taken, packs, ordered, keysIn, oldKeys, OverKeys}
 use Rattle.insert_merge.proofs.Ordered.{sorted-ordered, length-ordered, keys-are, places-are, are-places}
 use Rattle.insert.specs.Writing.{placedEntries, recorded, idIn, postingsIn, Writable}
@@ -355,19 +356,15 @@ module _ (w : ℕ) (m : Words) (hashes : List ℕ) (D : Ready w m hashes) (limit
         stored-run : runInsert w m limit rate hashes ≡ (stored (newId (readIndex w m)), write w (sizesOf w m) (inserted w limit (fingerprintOf w rate hashes) (readIndex w m)))
         stored-run = accepted-is w m limit rate hashes w2 l s (D .formed) full-not (six-is ∙ le-ltb (length (m .postings) / w) (p + count) fits) (seven-is ∙ le-ltb (length (m .stopped)) (k + n) keys-fit)
 
-        pub stored-answer : (id : ℕ) → id ≡ idIn (m .references) → stored id ≡ runInsert w m limit rate hashes .0
-        stored-answer id e = ap stored (e ∙ id-is w m w2 l s) ∙ ap (λ (o : Answer × Words). o .0) (sym stored-run)
-
-        pub stored-references : (rs′ : List ℕ) → rs′ ≡ recorded (m .references) (getD (m .references) 0 0) (getD (m .references) 1 0) (idIn (m .references)) (canonical rate)
+        -- a recording that is written
+        pub stored-is : (id : ℕ) (rs′ ps′ ss′ : List ℕ) → id ≡ idIn (m .references)
+            → rs′ ≡ recorded (m .references) (getD (m .references) 0 0) (getD (m .references) 1 0) (idIn (m .references)) (canonical rate)
             (cond (hasRmax w) (largestAnchor (hashesOf w hashes)) 0) (length (postingsIn w (m .references) (m .postings) hashes order count overs n)) (getD (m .references) 3 0 + n)
-            → rs′ ≡ runInsert w m limit rate hashes .1 .references
-        stored-references rs′ e = e ∙ references-left ∙ ap (λ (o : Answer × Words). o .1 .references) (sym stored-run)
-
-        pub stored-postings : (ps′ : List ℕ) → ps′ ≡ padded (length (m .postings)) (flat (postingsIn w (m .references) (m .postings) hashes order count overs n)) → ps′ ≡ runInsert w m limit rate hashes .1 .postings
-        stored-postings ps′ e = e ∙ postings-words ∙ ap (λ (o : Answer × Words). o .1 .postings) (sym stored-run)
-
-        pub stored-stopped : (ss′ : List ℕ) → ss′ ≡ padded (length (m .stopped)) (placeAll (λ y. y) (take n overs) (take (getD (m .references) 3 0) (m .stopped))) → ss′ ≡ runInsert w m limit rate hashes .1 .stopped
-        stored-stopped ss′ e = e ∙ stopped-words ∙ ap (λ (o : Answer × Words). o .1 .stopped) (sym stored-run)
+            → ps′ ≡ padded (length (m .postings)) (flat (postingsIn w (m .references) (m .postings) hashes order count overs n))
+            → ss′ ≡ padded (length (m .stopped)) (placeAll (λ y. y) (take n overs) (take (getD (m .references) 3 0) (m .stopped)))
+            → (stored id, words rs′ ps′ ss′) ≡ runInsert w m limit rate hashes
+        stored-is id rs′ ps′ ss′ e er ep es =
+            (λ i. (stored ((e ∙ id-is w m w2 l s) i), words ((er ∙ references-left) i) ((ep ∙ postings-words) i) ((es ∙ stopped-words) i))) ∙ sym stored-run
 
       -- where the keys do not fit
       pub refused-keys : getD (m .references) 2 0 + count ≤ length (m .postings) / w → length (m .stopped) < getD (m .references) 3 0 + n → runInsert w m limit rate hashes ≡ (refused 7, m)

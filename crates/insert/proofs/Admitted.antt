@@ -22,7 +22,7 @@ use Rattle.insert_merge.proofs.Ordered.{length-ordered, sort-packs, is-by-key}
 use Rattle.insert.specs.Writing.{recorded, idIn, postingsIn, Writable}
 use Rattle.model.specs.Run.{runInsert}
 use Rattle.insert.specs.Insert.{Ready}
-use Rattle.insert.proofs.Admission.{Room, rooms, few-hashes, hashes-in, few-taken, refused-postings, refused-keys, writable, stored-answer, stored-references, stored-postings, stored-stopped}
+use Rattle.insert.proofs.Admission.{Room, rooms, few-hashes, hashes-in, few-taken, refused-postings, refused-keys, writable, stored-is}
 
 module _ (w : ℕ) (rs ps ss hashes : List ℕ) (limit rate : ℕ) (D : Ready w (words rs ps ss) hashes) where
   abbrev m : Words
@@ -113,15 +113,10 @@ module _ (w : ℕ) (rs ps ss hashes : List ℕ) (limit rate : ℕ) (D : Ready w 
               pub may-write : Writable w rs ps ss hashes order count overs n
               may-write = writable w m hashes D limit rate count many-read order held-read room overs n n-in over-read fits-read keys-read
 
-              pub answers : (id : ℕ) → id ≡ idIn rs → stored id ≡ runInsert w (words rs ps ss) limit rate hashes .0
-              answers = stored-answer w m hashes D limit rate count many-read order held-read room overs n n-in over-read fits-read keys-read
-
-              pub leaves-references : (rs′ : List ℕ) → rs′ ≡ recorded rs (getD rs 0 0) (getD rs 1 0) (idIn rs) (canonical rate) (cond (hasRmax w) (largestAnchor (hashesOf w hashes)) 0)
-                  (length (postingsIn w rs ps hashes order count overs n)) (getD rs 3 0 + n) → rs′ ≡ runInsert w (words rs ps ss) limit rate hashes .1 .references
-              leaves-references = stored-references w m hashes D limit rate count many-read order held-read room overs n n-in over-read fits-read keys-read
-
-              pub leaves-postings : (ps′ : List ℕ) → ps′ ≡ padded (length ps) (flat (postingsIn w rs ps hashes order count overs n)) → ps′ ≡ runInsert w (words rs ps ss) limit rate hashes .1 .postings
-              leaves-postings = stored-postings w m hashes D limit rate count many-read order held-read room overs n n-in over-read fits-read keys-read
-
-              pub leaves-stopped : (ss′ : List ℕ) → ss′ ≡ padded (length ss) (placeAll (λ y. y) (take n overs) (take (getD rs 3 0) ss)) → ss′ ≡ runInsert w (words rs ps ss) limit rate hashes .1 .stopped
-              leaves-stopped = stored-stopped w m hashes D limit rate count many-read order held-read room overs n n-in over-read fits-read keys-read
+              pub stores : (id : ℕ) (rs′ ps′ ss′ : List ℕ) → id ≡ idIn rs
+                  → rs′ ≡ recorded rs (getD rs 0 0) (getD rs 1 0) (idIn rs) (canonical rate) (cond (hasRmax w) (largestAnchor (hashesOf w hashes)) 0)
+                  (length (postingsIn w rs ps hashes order count overs n)) (getD rs 3 0 + n)
+                  → ps′ ≡ padded (length ps) (flat (postingsIn w rs ps hashes order count overs n))
+                  → ss′ ≡ padded (length ss) (placeAll (λ y. y) (take n overs) (take (getD rs 3 0) ss))
+                  → (stored id, words rs′ ps′ ss′) ≡ runInsert w (words rs ps ss) limit rate hashes
+              stores = stored-is w m hashes D limit rate count many-read order held-read room overs n n-in over-read fits-read keys-read

@@ -12,7 +12,7 @@ ghost use Rattle.model.specs.Rows.{hasRmax, largestAnchor, canonical};
 ghost use Rattle.model.specs.Soundness.{rowWord};
 ghost use Rattle.model.specs.Run.{runInsert};
 ghost use Rattle.insert_merge.specs.Order.{placesIn};
-ghost use Rattle.soundness.specs.Scan.{words};
+ghost use Rattle.soundness.specs.Scan.{lent};
 ghost use Rattle.insert.specs.Writing.{Placing, placedEntries, Stopping, recorded, Recording, idIn, postingsIn, Writable};
 ghost use Rattle.insert.specs.Insert.{insertionAnswer, Ready, noRow};
 use rows::size;
@@ -153,11 +153,9 @@ fn admit(
     rate: u32,
     limit: u32,
 ) -> Insertion
-    requires { ⌜ Ready w (words (now refs) (now posts) (now stops)) (now hashes) ⌝ }
-    ensures { λ r. ⌜ insertionAnswer r ≡ runInsert w (words (now (refs .entry)) (now (posts .entry)) (now (stops .entry))) limit rate (now (hashes .entry)) .0 ⌝ }
-    ensures { λ _. ⌜ now (refs .exit) ≡ runInsert w (words (now (refs .entry)) (now (posts .entry)) (now (stops .entry))) limit rate (now (hashes .entry)) .1 .references ⌝ }
-    ensures { λ _. ⌜ now (posts .exit) ≡ runInsert w (words (now (refs .entry)) (now (posts .entry)) (now (stops .entry))) limit rate (now (hashes .entry)) .1 .postings ⌝ }
-    ensures { λ _. ⌜ now (stops .exit) ≡ runInsert w (words (now (refs .entry)) (now (posts .entry)) (now (stops .entry))) limit rate (now (hashes .entry)) .1 .stopped ⌝ }
+    requires { ⌜ Ready w (lent refs posts stops) (now hashes) ⌝ }
+    ensures { λ r. ⌜ (insertionAnswer r, lent (refs .exit) (posts .exit) (stops .exit))
+        ≡ runInsert w (lent (refs .entry) (posts .entry) (stops .entry)) limit rate (now (hashes .entry)) ⌝ }
 {
     let h = rows::header(refs);
     let p = h.postings;
@@ -188,10 +186,8 @@ pub fn insert(
     limit: u32,
 ) -> Insertion
     requires { ⌜ (3 ≤ w) × (w ≤ 5) ⌝ }
-    ensures { λ r. ⌜ insertionAnswer r ≡ runInsert w (words (now (refs .entry)) (now (posts .entry)) (now (stops .entry))) limit rate (now (hashes .entry)) .0 ⌝ }
-    ensures { λ _. ⌜ now (refs .exit) ≡ runInsert w (words (now (refs .entry)) (now (posts .entry)) (now (stops .entry))) limit rate (now (hashes .entry)) .1 .references ⌝ }
-    ensures { λ _. ⌜ now (posts .exit) ≡ runInsert w (words (now (refs .entry)) (now (posts .entry)) (now (stops .entry))) limit rate (now (hashes .entry)) .1 .postings ⌝ }
-    ensures { λ _. ⌜ now (stops .exit) ≡ runInsert w (words (now (refs .entry)) (now (posts .entry)) (now (stops .entry))) limit rate (now (hashes .entry)) .1 .stopped ⌝ }
+    ensures { λ r. ⌜ (insertionAnswer r, lent (refs .exit) (posts .exit) (stops .exit))
+        ≡ runInsert w (lent (refs .entry) (posts .entry) (stops .entry)) limit rate (now (hashes .entry)) ⌝ }
 {
     let n = soundness::refusal_of(refs, posts, stops, w);
     if n != 0 {

@@ -1,6 +1,5 @@
--- A Panako query on a store's words: refused before its votes are counted, or answered by them. Assumes nothing.
+-- A Panako query on a store's words that none of refusals 1 to 4 applies to: answered by its votes. Assumes nothing.
 use mathlib.Core.Path.{_≡_, refl, sym}
-use mathlib.Core.Bool.{not}
 use mathlib.Core.List.{List}
 use Prim.Native.Nat.{ℕ, _+_, _/_, _^_, _≤_, _<_}
 use native.Mathlib.Omega.{arith}
@@ -10,12 +9,11 @@ use Rattle.lists.specs.Lists.{All}
 use Rattle.lists.specs.Entries.{entries}
 use Rattle.lists.proofs.Keep.{all-imp}
 use Rattle.model.specs.Fingerprints.{hashesOf}
-use Rattle.model.specs.Calls.{Answer, refused}
+use Rattle.model.specs.Calls.{Answer}
 use Rattle.model.specs.Soundness.{rowWord}
 use Rattle.model.specs.Words.{Words}
 use Rattle.model.specs.Run.{runQuery}
-use Rattle.query_rank.specs.Answers.{scratchAfter}
-use Rattle.panako_vote.specs.Settings.{withinLimits, Accepted}
+use Rattle.panako_vote.specs.Settings.{Accepted}
 use Rattle.panako_vote.specs.Grids.{gridOf, Limited}
 use Rattle.panako_vote.proofs.Limits.{limited}
 use Rattle.query_refusals.specs.Early.{earlyRefusal}
@@ -36,22 +34,14 @@ pub query-parts : (a : Ask) (hs : List ℕ) (c : _) → c ≡ settings a
     → _≡_ {A = PanakoQuery} (record { cfg = c; «frames_per_sec» = a .rate; «q_len» = length hs / 4 }) (queryOf a (hashesOf 5 hs))
 query-parts a hs c e = λ i. record { cfg = e i; «frames_per_sec» = a .rate; «q_len» = sym (sound.hashes-long 5 hs) i }
 
-module _ (m : Words) (a : Ask) (hs : List ℕ) (s : List ℤ) (r : ℕ) (e : r ≡ earlyRefusal 5 12 m (length s) hs (not (withinLimits (settings a)))) where
+module _ (m : Words) (a : Ask) (hs : List ℕ) (s : List ℤ) (r : ℕ) (e : r ≡ earlyRefusal 5 12 m (length s) hs (beyond a)) where
   abbrev run : Answer × Words
   run = runQuery panako m (queryWith (a .cfg) (a .rate) hs (length s))
 
-  early-is : r ≡ earlyRefusal 5 12 m (length s) hs (beyond a)
-  unfolding beyond
-  early-is = e
-
-  -- one of refusals 1 to 4
-  pub refused-is : (r ≡ 0 → ⊥) → (refused r ≡ run .0) × ((m ≡ run .1) × (s ≡ scratchAfter (run .0) s))
-  refused-is ne = queries.refused-is panako (omega arith) m a hs s r early-is ne
-
-  -- none of them
+  -- none of refusals 1 to 4
   module _ (z : r ≡ 0) where
     P : Passed 5 12 m (length s) hs (beyond a)
-    P = queries.none-before panako (omega arith) m a hs s r early-is z
+    P = queries.none-before panako (omega arith) m a hs s r e z
 
     A : Accepted (settings a)
     A = within a (P .within)
@@ -89,11 +79,11 @@ module _ (m : Words) (a : Ask) (hs : List ℕ) (s : List ℤ) (r : ℕ) (e : r �
     unfolding judge
     judge-is x vs = refl
 
-    pub found-is : ((i : ℕ) → getD hs i 0 < 2 ^ 32) → ((i : ℕ) → getD (m .postings) i 0 < 2 ^ 32) → (x : Answer) (s′ : List ℤ)
+    pub found-is : ((i : ℕ) → getD hs i 0 < 2 ^ 32) → ((i : ℕ) → getD (m .postings) i 0 < 2 ^ 32) → (x : Answer)
         → x ≡ answerIn (queryOf a (hashesOf 5 hs)) (length s / 12) (m .references) (m .postings) hs
-        → s′ ≡ scratchAfter (answerIn (queryOf a (hashesOf 5 hs)) (length s / 12) (m .references) (m .postings) hs) s → (x ≡ run .0) × ((m ≡ run .1) × (s′ ≡ scratchAfter (run .0) s))
-    found-is hash-bits post-bits x s′ ex es =
-        queries.found-is panako (omega arith) m a hs s r early-is z (reading (queryOf a (hashesOf 5 hs))) judge-is (pairWords (gridOf (settings a))) rights x s′ ex es
+        → (x, m) ≡ run
+    found-is hash-bits post-bits x ex =
+        queries.found-is panako (omega arith) m a hs s r e z (reading (queryOf a (hashesOf 5 hs))) judge-is (pairWords (gridOf (settings a))) rights x ex
       where
         rights : RightAll panako (reading (queryOf a (hashesOf 5 hs))) a (pairWords (gridOf (settings a))) (postingsIn (m .references) (m .postings)) 0 (hashesIn (queryOf a (hashesOf 5 hs)) hs)
         rights = right-all panako (reading (queryOf a (hashesOf 5 hs))) a (pairWords (gridOf (settings a))) (0 + length (hashesIn (queryOf a (hashesOf 5 hs)) hs)) SmallHash SmallPosting

@@ -5,7 +5,7 @@ ghost use lib.IntN.{pos};
 ghost use lib.ListN.{length, getD, take};
 ghost use Rattle.model.specs.Fingerprints.{hashesOf};
 ghost use Rattle.model.specs.Run.{runQuery};
-ghost use Rattle.soundness.specs.Scan.{words};
+ghost use Rattle.soundness.specs.Scan.{lent};
 ghost use Rattle.query_rank.specs.Answers.{bestSoFar, findingAnswer, scratchAfter};
 ghost use Rattle.query_search.specs.Starts.{Starts, Ends, Zeros};
 ghost use Rattle.panako_vote.specs.Grids.{gridOf};
@@ -193,9 +193,10 @@ pub fn query(
     frames_per_sec: f32,
     cfg: PanakoMatchConfig,
 ) -> Finding
-    ensures { λ r. ⌜ findingAnswer r ≡ runQuery panako (words (now (refs .entry)) (now (posts .entry)) (now (stops .entry))) (queryWith cfg «frames_per_sec» (now (hashes .entry)) (length (now (s .entry)))) .0 ⌝ }
-    ensures { λ _. ⌜ words (now (refs .entry)) (now (posts .entry)) (now (stops .entry)) ≡ runQuery panako (words (now (refs .entry)) (now (posts .entry)) (now (stops .entry))) (queryWith cfg «frames_per_sec» (now (hashes .entry)) (length (now (s .entry)))) .1 ⌝ }
-    ensures { λ _. ⌜ now (s .exit) ≡ scratchAfter (runQuery panako (words (now (refs .entry)) (now (posts .entry)) (now (stops .entry))) (queryWith cfg «frames_per_sec» (now (hashes .entry)) (length (now (s .entry)))) .0) (now (s .entry)) ⌝ }
+    ensures { λ r. ⌜ (findingAnswer r, lent (refs .entry) (posts .entry) (stops .entry))
+        ≡ runQuery panako (lent (refs .entry) (posts .entry) (stops .entry))
+        (queryWith cfg «frames_per_sec» (now (hashes .entry)) (length (now (s .entry)))) ⌝ }
+    ensures { λ r. ⌜ now (s .exit) ≡ scratchAfter (findingAnswer r) (now (s .entry)) ⌝ }
 {
     let q = query_of(hashes, frames_per_sec, cfg);
     let beyond = !panako_vote::within_limits(q.cfg);

@@ -15,7 +15,6 @@ use Rattle.model.specs.Query.{Scheme, Query}
 use Rattle.model.specs.Calls.{Answer, refused}
 use Rattle.model.specs.Words.{Words}
 use Rattle.model.specs.Run.{runQuery}
-use Rattle.query_rank.specs.Answers.{scratchAfter}
 use Rattle.query_refusals.specs.Early.{wholeVotes, earlyRefusal}
 use Rattle.query_refusals.proofs.Early.{Passed, passed, refused-early, query-is}
 use Rattle.query_search.specs.Gathered.{Pairing, wordsFrom}
@@ -36,10 +35,8 @@ module _ (S : Scheme) (w2 : 2 ≤ S .width) (m : Words) (a : S .Ask) (hs : List 
   run = runQuery S m asked
 
   -- one of refusals 1 to 4
-  pub refused-is : (r ≡ 0 → ⊥) → (refused r ≡ run .0) × ((m ≡ run .1) × (s ≡ scratchAfter (run .0) s))
-  refused-is ne =
-      let o = refused-early S m asked w2 (λ z. ne (e ∙ z)) in
-      (ap refused e ∙ sym (ap (λ (x : Answer × Words). x .0) o), (sym (ap (λ (x : Answer × Words). x .1) o), ap (λ (x : Answer × Words). scratchAfter (x .0) s) (sym o)))
+  pub refused-is : (r ≡ 0 → ⊥) → (refused r, m) ≡ run
+  refused-is ne = ap (λ (n : ℕ). (refused n, m)) e ∙ sym (refused-early S m asked w2 (λ z. ne (e ∙ z)))
 
   -- none of them
   module _ (z : r ≡ 0) where
@@ -48,11 +45,9 @@ module _ (S : Scheme) (w2 : 2 ≤ S .width) (m : Words) (a : S .Ask) (hs : List 
 
     pub found-is : (R : Reading (S .Vote)) → ((q : Row) (vs : List (S .Vote)) → R .judge q vs ≡ S .judge a (hashesOf (S .width) hs) q vs) → (pair : Pairing)
         → RightAll S R a pair (entries (S .width) (getD (m .references) 2 0) (m .postings)) 0 (entries (S .width - 1) (length (hashesOf (S .width) hs)) hs)
-        → (x : Answer) (s′ : List ℤ)
+        → (x : Answer)
         → x ≡ answerIn R (length s / S .voteWords) (m .references) (wordsFrom pair 0 (entries (S .width) (getD (m .references) 2 0) (m .postings)) (entries (S .width - 1) (length (hashesOf (S .width) hs)) hs))
-        → s′ ≡ scratchAfter (answerIn R (length s / S .voteWords) (m .references) (wordsFrom pair 0 (entries (S .width) (getD (m .references) 2 0) (m .postings)) (entries (S .width - 1) (length (hashesOf (S .width) hs)) hs))) s
-        → (x ≡ run .0) × ((m ≡ run .1) × (s′ ≡ scratchAfter (run .0) s))
-    found-is R judges pair H x s′ ex es =
-        let o = query-is S m asked w2 (sym e ∙ z) in
-        let b = answer-is S w2 m (none-before .is-listed) (none-before .is-sound) a hs (length s) R judges pair H ∙ sym (ap (λ (y : Answer × Words). y .0) o) in
-        (ex ∙ b, (sym (ap (λ (y : Answer × Words). y .1) o), es ∙ ap (λ (y : Answer). scratchAfter y s) b))
+        → (x, m) ≡ run
+    found-is R judges pair H x ex =
+        ap (λ (y : Answer). (y, m)) (ex ∙ answer-is S w2 m (none-before .is-listed) (none-before .is-sound) a hs (length s) R judges pair H)
+        ∙ sym (query-is S m asked w2 (sym e ∙ z))

@@ -4,7 +4,7 @@ ghost use Prim.Native.Nat.{_+_, _*_, _≤_};
 ghost use lib.ListN.{length, getD};
 ghost use Rattle.model.specs.Soundness.{liveId};
 ghost use Rattle.model.specs.Run.{runCount, runRemove};
-ghost use Rattle.soundness.specs.Scan.{words};
+ghost use Rattle.soundness.specs.Scan.{lent};
 ghost use Rattle.remove.specs.Answers.{countAnswer, removalAnswer};
 ghost use Rattle.remove.specs.Erasing.{vacated, others, othersLeft, Erasable};
 use postings::at;
@@ -26,8 +26,8 @@ pub enum Removal {
 // How many recordings are live.
 pub fn live_count(refs: &[u32], posts: &[u32], stops: &[u32], w: usize) -> LiveCount
     requires { ⌜ (3 ≤ w) × (w ≤ 5) ⌝ }
-    ensures { λ r. ⌜ countAnswer r ≡ runCount w (words (now (refs .entry)) (now (posts .entry)) (now (stops .entry))) .0 ⌝ }
-    ensures { λ _. ⌜ words (now (refs .entry)) (now (posts .entry)) (now (stops .entry)) ≡ runCount w (words (now (refs .entry)) (now (posts .entry)) (now (stops .entry))) .1 ⌝ }
+    ensures { λ r. ⌜ (countAnswer r, lent (refs .entry) (posts .entry) (stops .entry))
+        ≡ runCount w (lent (refs .entry) (posts .entry) (stops .entry)) ⌝ }
 {
     let r = refusal_of(refs, posts, stops, w);
     if r != 0 {
@@ -76,10 +76,8 @@ fn erase(refs: &mut [u32], posts: &mut [u32], w: usize, id: u32)
 // A recording goes.
 pub fn remove(refs: &mut [u32], posts: &mut [u32], stops: &[u32], w: usize, id: u32) -> Removal
     requires { ⌜ (3 ≤ w) × (w ≤ 5) ⌝ }
-    ensures { λ r. ⌜ removalAnswer r ≡ runRemove w (words (now (refs .entry)) (now (posts .entry)) (now (stops .entry))) id .0 ⌝ }
-    ensures { λ _. ⌜ now (refs .exit) ≡ runRemove w (words (now (refs .entry)) (now (posts .entry)) (now (stops .entry))) id .1 .references ⌝ }
-    ensures { λ _. ⌜ now (posts .exit) ≡ runRemove w (words (now (refs .entry)) (now (posts .entry)) (now (stops .entry))) id .1 .postings ⌝ }
-    ensures { λ _. ⌜ now (stops .entry) ≡ runRemove w (words (now (refs .entry)) (now (posts .entry)) (now (stops .entry))) id .1 .stopped ⌝ }
+    ensures { λ r. ⌜ (removalAnswer r, lent (refs .exit) (posts .exit) (stops .entry))
+        ≡ runRemove w (lent (refs .entry) (posts .entry) (stops .entry)) id ⌝ }
 {
     let r = refusal_of(refs, posts, stops, w);
     if r != 0 {

@@ -3,7 +3,7 @@
 ghost use mathlib.Core.Path.{_≡_};
 ghost use Prim.Native.Nat.{_+_, _≤_, _<_};
 ghost use lib.ListN.{length};
-ghost use Rattle.soundness.specs.Scan.{words};
+ghost use Rattle.soundness.specs.Scan.{lent};
 ghost use Rattle.sheet_text.specs.Put.{Put};
 ghost use Rattle.sheet_kinds.specs.Kinds.{zeroScratch};
 ghost use Rattle.sheet_card.specs.Ends.{header, endLine, faultLine};
@@ -184,10 +184,10 @@ pub fn turn(
 ) -> Turned
     requires { ⌜ (at + 128 ≤ length (now line)) × (p .records ≤ p .offset) × (p .offset < limit) ⌝ }
     requires { ⌜ now scratch ≡ zeroScratch ⌝ }
-    ensures { λ r. ⌜ Put (now (line .entry)) (now (line .exit)) at (r .end) (turnOf (words (now (refs .entry)) (now (postings .entry)) (now (stopped .entry))) p (now (bytes .entry)) .line) ⌝ }
+    ensures { λ r. ⌜ Put (now (line .entry)) (now (line .exit)) at (r .end) (turnOf (lent (refs .entry) (postings .entry) (stopped .entry)) p (now (bytes .entry)) .line) ⌝ }
     ensures { λ r. ⌜ r .end ≤ at + 128 ⌝ }
-    ensures { λ _. ⌜ words (now (refs .exit)) (now (postings .exit)) (now (stopped .exit)) ≡ turnOf (words (now (refs .entry)) (now (postings .entry)) (now (stopped .entry))) p (now (bytes .entry)) .store ⌝ }
-    ensures { λ r. ⌜ r .next ≡ turnOf (words (now (refs .entry)) (now (postings .entry)) (now (stopped .entry))) p (now (bytes .entry)) .next ⌝ }
+    ensures { λ _. ⌜ lent (refs .exit) (postings .exit) (stopped .exit) ≡ turnOf (lent (refs .entry) (postings .entry) (stopped .entry)) p (now (bytes .entry)) .store ⌝ }
+    ensures { λ r. ⌜ r .next ≡ turnOf (lent (refs .entry) (postings .entry) (stopped .entry)) p (now (bytes .entry)) .next ⌝ }
     ensures { λ _. ⌜ now (scratch .exit) ≡ zeroScratch ⌝ }
 {
     if !is_whole(bytes) {

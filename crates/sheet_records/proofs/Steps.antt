@@ -1,33 +1,31 @@
 -- Laws of the step on a record. Assumes nothing.
-use mathlib.Core.Path.{_≡_, sym, ap, _∙_}
+use mathlib.Core.Path.{_≡_, refl, sym, ap, _∙_, subst}
 use mathlib.Core.List.{List}
-use Prim.Native.Nat.{ℕ}
+use Prim.Native.Nat.{ℕ, _+_, _≤_}
 use lib.IntN.{ℤ, pos}
 use lib.Ieee.{Float}
 use lib.ListN.{length, getD, replicate, length-replicate}
-use Rattle.model.specs.Calls.{Answer, built, stored, removed, count, best, nothing, refused, query}
-use Rattle.model.specs.Query.{Query}
-use Rattle.model.specs.Run.{run}
+use Rattle.model.specs.Calls.{Answer, built, stored, removed, count, best, nothing, refused}
 use Rattle.model.specs.Words.{Words}
-use Rattle.soundness.specs.Scan.{words}
 use Rattle.query_rank.specs.Answers.{scratchAfter}
 use Rattle.wang_judge.specs.declared.WangMatchConfig.{WangMatchConfig}
-use Rattle.wang_judge.specs.Scheme.{wang}
 use Rattle.wang_query.specs.Arguments.{queryWith}
 use Rattle.sheet_lines.specs.Lines.{answerLine}
 use Rattle.sheet_text.specs.Bytes.{fieldsOf}
-use Rattle.sheet_records.specs.Step.{lineAndStore, stepBy, stepOf}
-use Rattle.sheet_kinds.specs.Kinds.{queryOf, queryCall, scratchWords, zeroScratch, kindOf}
+use Rattle.sheet_text.specs.Put.{Put}
+use Rattle.sheet_records.specs.Step.{lineAndStore, stepBy, stepOf, Stepped}
+use Rattle.sheet_kinds.specs.Kinds.{scratchWords, zeroScratch, kindOf}
 
 -- ---- what a call leaves
 
--- an outcome o that is o': its line, and the three slices as its store
-pub done : (ws rs ps ss : List ℕ) (a : Answer) (o o' : Answer × Words) → o ≡ o' → a ≡ o .0 → rs ≡ o .1 .references → ps ≡ o .1 .postings → ss ≡ o .1 .stopped
-    → (answerLine (getD ws 0 0) a ≡ lineAndStore ws o' .0) × (words rs ps ss ≡ o' .1)
-done ws rs ps ss a o o' e x p q r = (
-  ap (λ y. answerLine (getD ws 0 0) y) (x ∙ ap (λ (y : Answer × Words). y .0) e),
-  λ i. record { references = (p ∙ ap (λ (y : Answer × Words). y .1 .references) e) i; postings = (q ∙ ap (λ (y : Answer × Words). y .1 .postings) e) i; stopped = (r ∙ ap (λ (y : Answer × Words). y .1 .stopped) e) i },
-)
+-- a step that is another
+pub stepped-as : {l l' : List ℕ} {at end : ℕ} {m : Words} {o o' : List ℕ × Words} → Stepped l l' at end m o → o ≡ o' → Stepped l l' at end m o'
+stepped-as {l} {l'} {at} {end} {m} h e = subst (λ (x : List ℕ × Words). Stepped l l' at end m x) e h
+
+-- the line of an answer, and the store with it
+pub stepped-by : {l l' : List ℕ} {at end : ℕ} {m : Words} {o : Answer × Words} (ws : List ℕ) (a : Answer) → Put l l' at end (answerLine (getD ws 0 0) a) → end ≤ at + 128
+    → (a, m) ≡ o → Stepped l l' at end m (lineAndStore ws o)
+stepped-by ws a p h e = stepped-as (record { line = p; short = h; store = refl }) (ap (λ (y : Answer × Words). lineAndStore ws y) e)
 
 -- a query by its parts
 pub same-asked : {c c' : WangMatchConfig} {r r' : Float} {hs hs' : List ℕ} {n n' : ℕ} → c ≡ c' → r ≡ r' → hs ≡ hs' → n ≡ n' → queryWith c r hs n ≡ queryWith c' r' hs' n'
@@ -50,14 +48,6 @@ still-zeros (count k) s e = same-zeros s e
 still-zeros (best id r) s e = same-zeros s e
 still-zeros nothing s e = same-zeros s e
 still-zeros (refused k) s e = e
-
--- a query q that is the record's
-pub query-done : (ws : List ℕ) (m : Words) (q : Query wang) (a : Answer) (s s' : List ℤ) → q ≡ queryOf ws → s ≡ zeroScratch → a ≡ run wang m (query q) .0
-    → m ≡ run wang m (query q) .1 → s' ≡ scratchAfter (run wang m (query q) .0) s
-    → (answerLine (getD ws 0 0) a ≡ lineAndStore ws (run wang m (queryCall ws)) .0) × (m ≡ run wang m (queryCall ws) .1) × (s' ≡ zeroScratch)
-query-done ws m q a s s' e z x y k =
-    let o = ap (λ (p : Query wang). run wang m (query p)) e in
-    (ap (λ (b : Answer). answerLine (getD ws 0 0) b) (x ∙ ap (λ (p : Answer × Words). p .0) o), y ∙ ap (λ (p : Answer × Words). p .1) o, k ∙ still-zeros (run wang m (query q) .0) s z)
 
 -- ---- the step
 

@@ -4,11 +4,10 @@ ghost use mathlib.Core.Bool.{true};
 ghost use Prim.Native.Nat.{_+_, _*_, _≤_};
 ghost use lib.ListN.{length, getD};
 ghost use Rattle.model.specs.Run.{run};
-ghost use Rattle.soundness.specs.Scan.{words};
+ghost use Rattle.soundness.specs.Scan.{lent};
 ghost use Rattle.wang_judge.specs.Scheme.{wang};
 ghost use Rattle.sheet_kinds.specs.Kinds.{zeroScratch, insertCall, removeCall, queryCall, kindOf, goodLength};
-ghost use Rattle.sheet_records.specs.Step.{lineAndStore, stepBy, stepOf};
-ghost use Rattle.sheet_text.specs.Put.{Put};
+ghost use Rattle.sheet_records.specs.Step.{lineAndStore, stepBy, stepOf, Stepped};
 use wang::WangIndex;
 
 // 01: limit, rate bits, hashes.
@@ -21,9 +20,8 @@ fn insert_record(
     at: usize,
 ) -> usize
     requires { ⌜ (2 ≤ length (now fields)) × (at + 128 ≤ length (now line)) ⌝ }
-    ensures { λ r. ⌜ Put (now (line .entry)) (now (line .exit)) at r (lineAndStore (now (fields .entry)) (run wang (words (now (refs .entry)) (now (postings .entry)) (now (stopped .entry))) (insertCall (now (fields .entry)))) .0) ⌝ }
-    ensures { λ r. ⌜ r ≤ at + 128 ⌝ }
-    ensures { λ _. ⌜ words (now (refs .exit)) (now (postings .exit)) (now (stopped .exit)) ≡ run wang (words (now (refs .entry)) (now (postings .entry)) (now (stopped .entry))) (insertCall (now (fields .entry))) .1 ⌝ }
+    ensures { λ r. ⌜ Stepped (now (line .entry)) (now (line .exit)) at r (lent (refs .exit) (postings .exit) (stopped .exit))
+        (lineAndStore (now (fields .entry)) (run wang (lent (refs .entry) (postings .entry) (stopped .entry)) (insertCall (now (fields .entry))))) ⌝ }
 {
     let limit = fields[0];
     let rate = fields[1];
@@ -41,9 +39,8 @@ fn remove_record(
     at: usize,
 ) -> usize
     requires { ⌜ (1 ≤ length (now fields)) × (at + 128 ≤ length (now line)) ⌝ }
-    ensures { λ r. ⌜ Put (now (line .entry)) (now (line .exit)) at r (lineAndStore (now (fields .entry)) (run wang (words (now (refs .entry)) (now (postings .entry)) (now (stopped .entry))) (removeCall (now (fields .entry)))) .0) ⌝ }
-    ensures { λ r. ⌜ r ≤ at + 128 ⌝ }
-    ensures { λ _. ⌜ words (now (refs .exit)) (now (postings .exit)) (now (stopped .entry)) ≡ run wang (words (now (refs .entry)) (now (postings .entry)) (now (stopped .entry))) (removeCall (now (fields .entry))) .1 ⌝ }
+    ensures { λ r. ⌜ Stepped (now (line .entry)) (now (line .exit)) at r (lent (refs .exit) (postings .exit) (stopped .entry))
+        (lineAndStore (now (fields .entry)) (run wang (lent (refs .entry) (postings .entry) (stopped .entry)) (removeCall (now (fields .entry))))) ⌝ }
 {
     let id = fields[0];
     let answer = WangIndex::remove(refs, postings, stopped, id);
@@ -62,9 +59,8 @@ fn query_record(
 ) -> usize
     requires { ⌜ (5 ≤ length (now fields)) × (at + 128 ≤ length (now line)) ⌝ }
     requires { ⌜ now scratch ≡ zeroScratch ⌝ }
-    ensures { λ r. ⌜ Put (now (line .entry)) (now (line .exit)) at r (lineAndStore (now (fields .entry)) (run wang (words (now (refs .entry)) (now (postings .entry)) (now (stopped .entry))) (queryCall (now (fields .entry)))) .0) ⌝ }
-    ensures { λ r. ⌜ r ≤ at + 128 ⌝ }
-    ensures { λ _. ⌜ words (now (refs .entry)) (now (postings .entry)) (now (stopped .entry)) ≡ run wang (words (now (refs .entry)) (now (postings .entry)) (now (stopped .entry))) (queryCall (now (fields .entry))) .1 ⌝ }
+    ensures { λ r. ⌜ Stepped (now (line .entry)) (now (line .exit)) at r (lent (refs .entry) (postings .entry) (stopped .entry))
+        (lineAndStore (now (fields .entry)) (run wang (lent (refs .entry) (postings .entry) (stopped .entry)) (queryCall (now (fields .entry))))) ⌝ }
     ensures { λ _. ⌜ now (scratch .exit) ≡ zeroScratch ⌝ }
 {
     let cfg = wang_judge::config_of(fields[0], fields[1], fields[2], fields[3]);
@@ -86,9 +82,8 @@ fn run_record(
 ) -> usize
     requires { ⌜ (goodLength (4 * length (now fields) + 1) kind ≡ true) × (at + 128 ≤ length (now line)) ⌝ }
     requires { ⌜ now scratch ≡ zeroScratch ⌝ }
-    ensures { λ r. ⌜ Put (now (line .entry)) (now (line .exit)) at r (stepBy (words (now (refs .entry)) (now (postings .entry)) (now (stopped .entry))) (now (fields .entry)) (kindOf kind) .0) ⌝ }
-    ensures { λ r. ⌜ r ≤ at + 128 ⌝ }
-    ensures { λ _. ⌜ words (now (refs .exit)) (now (postings .exit)) (now (stopped .exit)) ≡ stepBy (words (now (refs .entry)) (now (postings .entry)) (now (stopped .entry))) (now (fields .entry)) (kindOf kind) .1 ⌝ }
+    ensures { λ r. ⌜ Stepped (now (line .entry)) (now (line .exit)) at r (lent (refs .exit) (postings .exit) (stopped .exit))
+        (stepBy (lent (refs .entry) (postings .entry) (stopped .entry)) (now (fields .entry)) (kindOf kind)) ⌝ }
     ensures { λ _. ⌜ now (scratch .exit) ≡ zeroScratch ⌝ }
 {
     if kind == 1 {
@@ -113,9 +108,8 @@ pub fn step(
 ) -> usize
     requires { ⌜ (goodLength (length (now bytes)) (getD (now bytes) 0 0) ≡ true) × (at + 128 ≤ length (now line)) ⌝ }
     requires { ⌜ now scratch ≡ zeroScratch ⌝ }
-    ensures { λ r. ⌜ Put (now (line .entry)) (now (line .exit)) at r (stepOf (words (now (refs .entry)) (now (postings .entry)) (now (stopped .entry))) (now (bytes .entry)) .0) ⌝ }
-    ensures { λ r. ⌜ r ≤ at + 128 ⌝ }
-    ensures { λ _. ⌜ words (now (refs .exit)) (now (postings .exit)) (now (stopped .exit)) ≡ stepOf (words (now (refs .entry)) (now (postings .entry)) (now (stopped .entry))) (now (bytes .entry)) .1 ⌝ }
+    ensures { λ r. ⌜ Stepped (now (line .entry)) (now (line .exit)) at r (lent (refs .exit) (postings .exit) (stopped .exit))
+        (stepOf (lent (refs .entry) (postings .entry) (stopped .entry)) (now (bytes .entry))) ⌝ }
     ensures { λ _. ⌜ now (scratch .exit) ≡ zeroScratch ⌝ }
 {
     let mut fields = [0u32; 2048];

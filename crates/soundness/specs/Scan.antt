@@ -4,6 +4,7 @@ use mathlib.Core.List.{List}
 use Prim.Native.Nat.{ℕ, zero, suc, _+_, _*_, _-_, _/_, _≤_}
 use lib.ListN.{length}
 use lib.Dec.{eqb, leb}
+use denote.Ref.{RefT, now}
 use Rattle.lists.specs.Every.{every, count}
 use Rattle.lists.specs.Entries.{keyAt, keysAscend, zeroFrom}
 use Rattle.model.specs.Rows.{hasRmax, noRate, isCanonical}
@@ -14,6 +15,10 @@ use Rattle.model.specs.Soundness.{rowWord, countsFit, liveWord, deadFine, rateF
 -- the three slices
 abbrev pub words : List ℕ → List ℕ → List ℕ → Words
 words rs ps ss = record { references = rs; postings = ps; stopped = ss }
+
+-- the three slices that are lent, as they are at entry or at exit
+abbrev pub lent : RefT (List ℕ) → RefT (List ℕ) → RefT (List ℕ) → Words
+lent rs ps ss = words (now rs) (now ps) (now ss)
 
 -- the lengths of the slices are of those listed
 unfoldable pub lengthsListed : ℕ → ℕ → ℕ → ℕ → Bool

@@ -1,11 +1,12 @@
 // WangIndex on a lent store: three slices of words, as document 01's "The lent store" lays them out. No call asks anything of what it is
-// lent: it is worked on, or refused with a number and left as it was. `run wang` is the model's account of the calls (crate `model`,
-// specs/Run.antt), of which specs/Demand3.antt states the claim about histories.
+// lent: it is worked on, or refused with a number and left as it was. A contract is one equation: the answer, with the store at exit, is
+// what `run wang` says of the store at entry and the call. That is the model's account of the calls (crate `model`, specs/Run.antt), of
+// which specs/Demand3.antt states the claim about histories.
 ghost use mathlib.Core.Path.{_≡_};
 ghost use lib.ListN.{length};
 ghost use Rattle.model.specs.Calls.{build, insert, remove, liveCount, query};
 ghost use Rattle.model.specs.Run.{run};
-ghost use Rattle.soundness.specs.Scan.{words};
+ghost use Rattle.soundness.specs.Scan.{lent};
 ghost use Rattle.build.specs.Answers.{buildingAnswer};
 ghost use Rattle.insert.specs.Insert.{insertionAnswer};
 ghost use Rattle.remove.specs.Answers.{countAnswer, removalAnswer};
@@ -36,10 +37,9 @@ impl WangIndex {
         rates: &[u32],
         limit: u32,
     ) -> Building
-        ensures { λ r. ⌜ buildingAnswer r ≡ run wang (words (now (refs .entry)) (now (postings .entry)) (now (stopped .entry))) (build limit (now (hashes .entry)) (now (lengths .entry)) (now (rates .entry))) .0 ⌝ }
-        ensures { λ _. ⌜ now (refs .exit) ≡ run wang (words (now (refs .entry)) (now (postings .entry)) (now (stopped .entry))) (build limit (now (hashes .entry)) (now (lengths .entry)) (now (rates .entry))) .1 .references ⌝ }
-        ensures { λ _. ⌜ now (postings .exit) ≡ run wang (words (now (refs .entry)) (now (postings .entry)) (now (stopped .entry))) (build limit (now (hashes .entry)) (now (lengths .entry)) (now (rates .entry))) .1 .postings ⌝ }
-        ensures { λ _. ⌜ now (stopped .exit) ≡ run wang (words (now (refs .entry)) (now (postings .entry)) (now (stopped .entry))) (build limit (now (hashes .entry)) (now (lengths .entry)) (now (rates .entry))) .1 .stopped ⌝ }
+        ensures { λ r. ⌜ (buildingAnswer r, lent (refs .exit) (postings .exit) (stopped .exit))
+            ≡ run wang (lent (refs .entry) (postings .entry) (stopped .entry))
+            (build limit (now (hashes .entry)) (now (lengths .entry)) (now (rates .entry))) ⌝ }
     {
         build::build(
             refs,
@@ -62,28 +62,24 @@ impl WangIndex {
         rate: u32,
         limit: u32,
     ) -> Insertion
-        ensures { λ r. ⌜ insertionAnswer r ≡ run wang (words (now (refs .entry)) (now (postings .entry)) (now (stopped .entry))) (insert limit rate (now (hashes .entry))) .0 ⌝ }
-        ensures { λ _. ⌜ now (refs .exit) ≡ run wang (words (now (refs .entry)) (now (postings .entry)) (now (stopped .entry))) (insert limit rate (now (hashes .entry))) .1 .references ⌝ }
-        ensures { λ _. ⌜ now (postings .exit) ≡ run wang (words (now (refs .entry)) (now (postings .entry)) (now (stopped .entry))) (insert limit rate (now (hashes .entry))) .1 .postings ⌝ }
-        ensures { λ _. ⌜ now (stopped .exit) ≡ run wang (words (now (refs .entry)) (now (postings .entry)) (now (stopped .entry))) (insert limit rate (now (hashes .entry))) .1 .stopped ⌝ }
+        ensures { λ r. ⌜ (insertionAnswer r, lent (refs .exit) (postings .exit) (stopped .exit))
+            ≡ run wang (lent (refs .entry) (postings .entry) (stopped .entry)) (insert limit rate (now (hashes .entry))) ⌝ }
     {
         insert::insert(refs, postings, stopped, hashes, WIDTH, rate, limit)
     }
 
     // Removes a recording, and answers whether it was live.
     pub fn remove(refs: &mut [u32], postings: &mut [u32], stopped: &[u32], id: u32) -> Removal
-        ensures { λ r. ⌜ removalAnswer r ≡ run wang (words (now (refs .entry)) (now (postings .entry)) (now (stopped .entry))) (remove id) .0 ⌝ }
-        ensures { λ _. ⌜ now (refs .exit) ≡ run wang (words (now (refs .entry)) (now (postings .entry)) (now (stopped .entry))) (remove id) .1 .references ⌝ }
-        ensures { λ _. ⌜ now (postings .exit) ≡ run wang (words (now (refs .entry)) (now (postings .entry)) (now (stopped .entry))) (remove id) .1 .postings ⌝ }
-        ensures { λ _. ⌜ now (stopped .entry) ≡ run wang (words (now (refs .entry)) (now (postings .entry)) (now (stopped .entry))) (remove id) .1 .stopped ⌝ }
+        ensures { λ r. ⌜ (removalAnswer r, lent (refs .exit) (postings .exit) (stopped .entry))
+            ≡ run wang (lent (refs .entry) (postings .entry) (stopped .entry)) (remove id) ⌝ }
     {
         remove::remove(refs, postings, stopped, WIDTH, id)
     }
 
     // How many recordings are live.
     pub fn live_count(refs: &[u32], postings: &[u32], stopped: &[u32]) -> LiveCount
-        ensures { λ r. ⌜ countAnswer r ≡ run wang (words (now (refs .entry)) (now (postings .entry)) (now (stopped .entry))) liveCount .0 ⌝ }
-        ensures { λ _. ⌜ words (now (refs .entry)) (now (postings .entry)) (now (stopped .entry)) ≡ run wang (words (now (refs .entry)) (now (postings .entry)) (now (stopped .entry))) liveCount .1 ⌝ }
+        ensures { λ r. ⌜ (countAnswer r, lent (refs .entry) (postings .entry) (stopped .entry))
+            ≡ run wang (lent (refs .entry) (postings .entry) (stopped .entry)) liveCount ⌝ }
     {
         remove::live_count(refs, postings, stopped, WIDTH)
     }
@@ -99,9 +95,10 @@ impl WangIndex {
         frames_per_sec: f32,
         cfg: WangMatchConfig,
     ) -> Finding
-        ensures { λ r. ⌜ findingAnswer r ≡ run wang (words (now (refs .entry)) (now (postings .entry)) (now (stopped .entry))) (query (queryWith cfg «frames_per_sec» (now (hashes .entry)) (length (now (scratch .entry))))) .0 ⌝ }
-        ensures { λ _. ⌜ words (now (refs .entry)) (now (postings .entry)) (now (stopped .entry)) ≡ run wang (words (now (refs .entry)) (now (postings .entry)) (now (stopped .entry))) (query (queryWith cfg «frames_per_sec» (now (hashes .entry)) (length (now (scratch .entry))))) .1 ⌝ }
-        ensures { λ _. ⌜ now (scratch .exit) ≡ scratchAfter (run wang (words (now (refs .entry)) (now (postings .entry)) (now (stopped .entry))) (query (queryWith cfg «frames_per_sec» (now (hashes .entry)) (length (now (scratch .entry))))) .0) (now (scratch .entry)) ⌝ }
+        ensures { λ r. ⌜ (findingAnswer r, lent (refs .entry) (postings .entry) (stopped .entry))
+            ≡ run wang (lent (refs .entry) (postings .entry) (stopped .entry))
+            (query (queryWith cfg «frames_per_sec» (now (hashes .entry)) (length (now (scratch .entry))))) ⌝ }
+        ensures { λ r. ⌜ now (scratch .exit) ≡ scratchAfter (findingAnswer r) (now (scratch .entry)) ⌝ }
     {
         wang_query::query(
             refs,

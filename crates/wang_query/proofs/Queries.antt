@@ -1,21 +1,19 @@
--- A Wang query on a store's words: refused before its votes are counted, or answered by them. Assumes nothing.
+-- A Wang query on a store's words that none of refusals 1 to 4 applies to: answered by its votes. Assumes nothing.
 use mathlib.Core.Path.{_≡_, refl, sym}
 use mathlib.Core.List.{List}
 use Prim.Native.Nat.{ℕ, _/_, _^_, _≤_, _<_}
 use native.Mathlib.Omega.{arith}
 use lib.IntN.{ℤ}
 use lib.ListN.{length, getD}
-use lib.Dec.{ltb}
 use borrow.Author.Tests.{ltb-false}
 use Rattle.lists.specs.Lists.{All}
 use Rattle.lists.proofs.Keep.{all-imp}
 use Rattle.lists.proofs.Entries.{all-entries, entry-word, length-entries}
 use Rattle.model.specs.Fingerprints.{hashesOf}
 use Rattle.model.specs.Rows.{largestAnchor}
-use Rattle.model.specs.Calls.{Answer, refused}
+use Rattle.model.specs.Calls.{Answer}
 use Rattle.model.specs.Words.{Words}
 use Rattle.model.specs.Run.{runQuery}
-use Rattle.query_rank.specs.Answers.{scratchAfter}
 use Rattle.query_refusals.specs.Early.{earlyRefusal}
 use Rattle.query_refusals.proofs.Early.{Passed}
 use Rattle.query_laws.proofs.Gathering.{RightAll, right-all}
@@ -34,22 +32,14 @@ pub query-parts : (a : Ask) (hs : List ℕ) (top : ℕ) → top ≡ largestAncho
     → _≡_ {A = WangQuery} (record { cfg = a .cfg; «frames_per_sec» = a .rate; «q_max» = top; «q_len» = length hs / 2 }) (queryOf a (hashesOf 3 hs))
 query-parts a hs top e = λ i. record { cfg = a .cfg; «frames_per_sec» = a .rate; «q_max» = e i; «q_len» = sym (sound.hashes-long 3 hs) i }
 
-module _ (m : Words) (a : Ask) (hs : List ℕ) (s : List ℤ) (r : ℕ) (e : r ≡ earlyRefusal 3 6 m (length s) hs (ltb 65535 (a .cfg .«offset_tolerance_frames»))) where
+module _ (m : Words) (a : Ask) (hs : List ℕ) (s : List ℤ) (r : ℕ) (e : r ≡ earlyRefusal 3 6 m (length s) hs (beyond (a .cfg))) where
   abbrev run : Answer × Words
   run = runQuery wang m (queryWith (a .cfg) (a .rate) hs (length s))
 
-  early-is : r ≡ earlyRefusal 3 6 m (length s) hs (beyond (a .cfg))
-  unfolding beyond
-  early-is = e
-
-  -- one of refusals 1 to 4
-  pub refused-is : (r ≡ 0 → ⊥) → (refused r ≡ run .0) × ((m ≡ run .1) × (s ≡ scratchAfter (run .0) s))
-  refused-is ne = queries.refused-is wang (omega arith) m a hs s r early-is ne
-
-  -- none of them
+  -- none of refusals 1 to 4
   module _ (z : r ≡ 0) (hash-bits : (i : ℕ) → getD hs i 0 < 2 ^ 32) where
     P : Passed 3 6 m (length s) hs (beyond (a .cfg))
-    P = queries.none-before wang (omega arith) m a hs s r early-is z
+    P = queries.none-before wang (omega arith) m a hs s r e z
 
     near : a .cfg .«offset_tolerance_frames» ≤ 65535
     unfolding beyond
@@ -82,11 +72,11 @@ module _ (m : Words) (a : Ask) (hs : List ℕ) (s : List ℤ) (r : ℕ) (e : r �
     unfolding judge
     judge-is x vs = refl
 
-    pub found-is : ((i : ℕ) → getD (m .postings) i 0 < 2 ^ 32) → (x : Answer) (s′ : List ℤ)
+    pub found-is : ((i : ℕ) → getD (m .postings) i 0 < 2 ^ 32) → (x : Answer)
         → x ≡ answerIn (queryOf a (hashesOf 3 hs)) (length s / 6) (m .references) (m .postings) hs
-        → s′ ≡ scratchAfter (answerIn (queryOf a (hashesOf 3 hs)) (length s / 6) (m .references) (m .postings) hs) s → (x ≡ run .0) × ((m ≡ run .1) × (s′ ≡ scratchAfter (run .0) s))
-    found-is post-bits x s′ ex es =
-        queries.found-is wang (omega arith) m a hs s r early-is z (reading (queryOf a (hashesOf 3 hs))) judge-is (pairWord (largestAnchor (hashesOf 3 hs))) rights x s′ ex es
+        → (x, m) ≡ run
+    found-is post-bits x ex =
+        queries.found-is wang (omega arith) m a hs s r e z (reading (queryOf a (hashesOf 3 hs))) judge-is (pairWord (largestAnchor (hashesOf 3 hs))) rights x ex
       where
         rights : RightAll wang (reading (queryOf a (hashesOf 3 hs))) a (pairWord (largestAnchor (hashesOf 3 hs))) (postingsIn (m .references) (m .postings)) 0 (hashesIn (queryOf a (hashesOf 3 hs)) hs)
         rights = right-all wang (reading (queryOf a (hashesOf 3 hs))) a (pairWord (largestAnchor (hashesOf 3 hs))) (2 ^ 11) (Low (largestAnchor (hashesOf 3 hs))) Small

@@ -4,7 +4,7 @@ ghost use Prim.Native.Nat.{_*_, _/_, _≤_};
 ghost use lib.ListN.{length, getD, take};
 ghost use Rattle.model.specs.Fingerprints.{hashesOf};
 ghost use Rattle.model.specs.Run.{runQuery};
-ghost use Rattle.soundness.specs.Scan.{words};
+ghost use Rattle.soundness.specs.Scan.{lent};
 ghost use Rattle.query_search.specs.Starts.{Starts, Ends, Zeros};
 ghost use Rattle.query_rank.specs.Answers.{bestSoFar, findingAnswer, scratchAfter};
 ghost use Rattle.wang_judge.specs.Scheme.{queryOf, wang};
@@ -144,9 +144,10 @@ pub fn query(
     frames_per_sec: f32,
     cfg: WangMatchConfig,
 ) -> Finding
-    ensures { λ r. ⌜ findingAnswer r ≡ runQuery wang (words (now (refs .entry)) (now (posts .entry)) (now (stops .entry))) (queryWith cfg «frames_per_sec» (now (hashes .entry)) (length (now (s .entry)))) .0 ⌝ }
-    ensures { λ _. ⌜ words (now (refs .entry)) (now (posts .entry)) (now (stops .entry)) ≡ runQuery wang (words (now (refs .entry)) (now (posts .entry)) (now (stops .entry))) (queryWith cfg «frames_per_sec» (now (hashes .entry)) (length (now (s .entry)))) .1 ⌝ }
-    ensures { λ _. ⌜ now (s .exit) ≡ scratchAfter (runQuery wang (words (now (refs .entry)) (now (posts .entry)) (now (stops .entry))) (queryWith cfg «frames_per_sec» (now (hashes .entry)) (length (now (s .entry)))) .0) (now (s .entry)) ⌝ }
+    ensures { λ r. ⌜ (findingAnswer r, lent (refs .entry) (posts .entry) (stops .entry))
+        ≡ runQuery wang (lent (refs .entry) (posts .entry) (stops .entry))
+        (queryWith cfg «frames_per_sec» (now (hashes .entry)) (length (now (s .entry)))) ⌝ }
+    ensures { λ r. ⌜ now (s .exit) ≡ scratchAfter (findingAnswer r) (now (s .entry)) ⌝ }
 {
     let beyond = 65535 < cfg.offset_tolerance_frames;
     let r = query_refusals::of_query(refs, posts, stops, 3, s.len(), 6, hashes, beyond);

@@ -6,8 +6,7 @@ use Prim.Native.Nat.{_-_}
 use Rattle.build_ranges.specs.Codes.{Fit}
 use Rattle.model.specs.Words.{Words}
 use Rattle.soundness.specs.Scan.{words}
-use Rattle.model.specs.Run.{runBuild}
-use Rattle.build.proofs.Accepted.{Accepted, slices, accepted, refused-answer, refused-words, written, answered, accepted-fit, accepted-rated, accepted-rows, accepted-many, accepted-postings, accepted-few, accepted-stops, accepted-keys}
+use Rattle.build.proofs.Accepted.{Accepted, accepted, refused-run, written, accepted-fit, accepted-rated, accepted-rows, accepted-many, accepted-postings, accepted-few, accepted-stops, accepted-keys}
 use Rattle.build.proofs.build.Statement.{statement}
 use Rattle.build.proofs.build.Tie as tie
 
@@ -45,11 +44,8 @@ returns : tie.Need-returns
 returns c =
     let s = c .before .before .before .before .before .before .before .before .before .before .before in
     let a = s .args in
-    let r = c .before .refusal-of in (
-      refused-answer (a .w) (words (a .refs .now) (a .posts .now) (a .stops .now)) (a .limit) (a .hashes .now) (a .lengths .now) (a .rates .now) (r .result) (r .ensures) (c .if1 .taken),
-      slices (words (a .refs .now) (a .posts .now) (a .stops .now)) (runBuild (a .w) (words (a .refs .now) (a .posts .now) (a .stops .now)) (a .limit) (a .hashes .now) (a .lengths .now) (a .rates .now) .1)
-          (refused-words (a .w) (words (a .refs .now) (a .posts .now) (a .stops .now)) (a .limit) (a .hashes .now) (a .lengths .now) (a .rates .now) (r .result) (r .ensures) (c .if1 .taken) (omega (arith, s .pre .0))),
-    )
+    let r = c .before .refusal-of in
+    refused-run (a .w) (words (a .refs .now) (a .posts .now) (a .stops .now)) (a .limit) (a .hashes .now) (a .lengths .now) (a .rates .now) (r .result) (r .ensures) (c .if1 .taken) (omega (arith, s .pre .0))
 
 sub-m : tie.Need-sub-m
 sub-m c =
@@ -111,12 +107,9 @@ returns-2 c =
     let a = s .args in
     let g = c .before .before .before .before .before .before .before .before .put-postings in
     let h = c .before .before .put-references in
-    let z = c .before .before .before .before .before .before .before .before .before .size .ensures in (
-      answered (a .w) (a .refs .now) (a .posts .now) (a .stops .now) (a .limit) (a .hashes .now) (a .lengths .now) (a .rates .now) (s .pre .0) (acc E) (fit E),
-      slices (words (h .last .0) (g .last .0) (g .last .1 .0)) (runBuild (a .w) (words (a .refs .now) (a .posts .now) (a .stops .now)) (a .limit) (a .hashes .now) (a .lengths .now) (a .rates .now) .1)
-          (written (a .w) (a .refs .now) (a .posts .now) (a .stops .now) (a .limit) (a .hashes .now) (a .lengths .now) (a .rates .now) (s .pre .0) (acc E) (fit E) (h .last .0) (g .last .0) (g .last .1 .0) (g .result .postings) (g .result .stopped)
-          (rw z at (g .ensures .0)) (rw z at (g .ensures .2)) (h .ensures) (rw z at (g .ensures .3)) (rw z at (g .ensures .4))),
-    )
+    let z = c .before .before .before .before .before .before .before .before .before .size .ensures in
+    written (a .w) (a .refs .now) (a .posts .now) (a .stops .now) (a .limit) (a .hashes .now) (a .lengths .now) (a .rates .now) (s .pre .0) (acc E) (fit E) (h .last .0) (g .last .0) (g .last .1 .0) (g .result .postings) (g .result .stopped)
+    (rw z at (g .ensures .0)) (rw z at (g .ensures .2)) (h .ensures) (rw z at (g .ensures .3)) (rw z at (g .ensures .4))
 
 pub build-spec : {M : Type 1} → statement M
 build-spec =

@@ -1,9 +1,7 @@
 -- `insert::admit` meets its contract. Assumes nothing.
-use mathlib.Core.Path.{_≡_, refl, sym, ap, _∙_}
+use mathlib.Core.Path.{_≡_, refl, sym, _∙_}
 use native.Mathlib.Omega.{arith}
 use lib.ListN.{length}
-use Rattle.model.specs.Calls.{Answer}
-use Rattle.model.specs.Words.{Words}
 use Rattle.insert.proofs.Admitted as admitted
 use borrow.Author.Needs.{needs}
 use Rattle.insert.proofs.admit.Statement.{statement}
@@ -77,13 +75,7 @@ returns : tie.Need-returns
 returns c =
     let co = c .before .before in
     let hd0 = hd co in
-    let e = admitted.refused-six (s hd0 .args .w) (s hd0 .args .refs .now) (s hd0 .args .posts .now) (s hd0 .args .stops .now) (s hd0 .args .hashes .now) (s hd0 .args .limit) (s hd0 .args .rate) (s hd0 .pre) (hd0 .header .result) (hd0 .header .ensures) (co .collect .result) (co .collect .ensures .0) (c .if1 .taken) in (
-      sym (ap (λ (o : Answer × Words). o .0) e),
-      (
-        sym (ap (λ (o : Answer × Words). o .1 .references) e),
-        (sym (ap (λ (o : Answer × Words). o .1 .postings) e), sym (ap (λ (o : Answer × Words). o .1 .stopped) e)),
-      ),
-    )
+    sym (admitted.refused-six (s hd0 .args .w) (s hd0 .args .refs .now) (s hd0 .args .posts .now) (s hd0 .args .stops .now) (s hd0 .args .hashes .now) (s hd0 .args .limit) (s hd0 .args .rate) (s hd0 .pre) (hd0 .header .result) (hd0 .header .ensures) (co .collect .result) (co .collect .ensures .0) (c .if1 .taken))
 
 slice-aggregate-sort-words : tie.Need-slice-aggregate-sort-words
 slice-aggregate-sort-words c = search needs
@@ -135,13 +127,7 @@ returns-2 c =
     let so = srt ov in
     let co = col so in
     let hd0 = hd co in
-    let e = admitted.refused-seven (s hd0 .args .w) (s hd0 .args .refs .now) (s hd0 .args .posts .now) (s hd0 .args .stops .now) (s hd0 .args .hashes .now) (s hd0 .args .limit) (s hd0 .args .rate) (s hd0 .pre) (hd0 .header .result) (hd0 .header .ensures) (co .collect .result) (co .collect .ensures .0) (co .collect .last .0) (so .sort-words .last .0) (co .collect .ensures .1) (so .sort-words .ensures .0) (sorted-long so) (ov .over-keys .last .0) (ov .over-keys .result) (ov .over-keys .ensures .0) (over-long ov) (ov .over-keys .ensures .1) (so .before .before .if1 .left) (c .if2 .taken) in (
-      sym (ap (λ (o : Answer × Words). o .0) e),
-      (
-        sym (ap (λ (o : Answer × Words). o .1 .references) e),
-        (sym (ap (λ (o : Answer × Words). o .1 .postings) e), sym (ap (λ (o : Answer × Words). o .1 .stopped) e)),
-      ),
-    )
+    sym (admitted.refused-seven (s hd0 .args .w) (s hd0 .args .refs .now) (s hd0 .args .posts .now) (s hd0 .args .stops .now) (s hd0 .args .hashes .now) (s hd0 .args .limit) (s hd0 .args .rate) (s hd0 .pre) (hd0 .header .result) (hd0 .header .ensures) (co .collect .result) (co .collect .ensures .0) (co .collect .last .0) (so .sort-words .last .0) (co .collect .ensures .1) (so .sort-words .ensures .0) (sorted-long so) (ov .over-keys .last .0) (ov .over-keys .result) (ov .over-keys .ensures .0) (over-long ov) (ov .over-keys .ensures .1) (so .before .before .if1 .left) (c .if2 .taken))
 
 slice-aggregate-write-recording : tie.Need-slice-aggregate-write-recording
 slice-aggregate-write-recording c = search needs
@@ -175,14 +161,8 @@ returns-3 c =
     let so = srt ov in
     let co = col so in
     let hd0 = hd co in
-    let f = so .before .before .if1 .left in
-    let g = el .if2 .left in (
-      admitted.answers (s hd0 .args .w) (s hd0 .args .refs .now) (s hd0 .args .posts .now) (s hd0 .args .stops .now) (s hd0 .args .hashes .now) (s hd0 .args .limit) (s hd0 .args .rate) (s hd0 .pre) (hd0 .header .result) (hd0 .header .ensures) (co .collect .result) (co .collect .ensures .0) (co .collect .last .0) (so .sort-words .last .0) (co .collect .ensures .1) (so .sort-words .ensures .0) (sorted-long so) (ov .over-keys .last .0) (ov .over-keys .result) (ov .over-keys .ensures .0) (over-long ov) (ov .over-keys .ensures .1) f g _ (wr .write-recording .ensures .0),
-      (
-        admitted.leaves-references (s hd0 .args .w) (s hd0 .args .refs .now) (s hd0 .args .posts .now) (s hd0 .args .stops .now) (s hd0 .args .hashes .now) (s hd0 .args .limit) (s hd0 .args .rate) (s hd0 .pre) (hd0 .header .result) (hd0 .header .ensures) (co .collect .result) (co .collect .ensures .0) (co .collect .last .0) (so .sort-words .last .0) (co .collect .ensures .1) (so .sort-words .ensures .0) (sorted-long so) (ov .over-keys .last .0) (ov .over-keys .result) (ov .over-keys .ensures .0) (over-long ov) (ov .over-keys .ensures .1) f g _ (wr .write-recording .ensures .1 .0),
-        (admitted.leaves-postings (s hd0 .args .w) (s hd0 .args .refs .now) (s hd0 .args .posts .now) (s hd0 .args .stops .now) (s hd0 .args .hashes .now) (s hd0 .args .limit) (s hd0 .args .rate) (s hd0 .pre) (hd0 .header .result) (hd0 .header .ensures) (co .collect .result) (co .collect .ensures .0) (co .collect .last .0) (so .sort-words .last .0) (co .collect .ensures .1) (so .sort-words .ensures .0) (sorted-long so) (ov .over-keys .last .0) (ov .over-keys .result) (ov .over-keys .ensures .0) (over-long ov) (ov .over-keys .ensures .1) f g _ (wr .write-recording .ensures .1 .1 .0), admitted.leaves-stopped (s hd0 .args .w) (s hd0 .args .refs .now) (s hd0 .args .posts .now) (s hd0 .args .stops .now) (s hd0 .args .hashes .now) (s hd0 .args .limit) (s hd0 .args .rate) (s hd0 .pre) (hd0 .header .result) (hd0 .header .ensures) (co .collect .result) (co .collect .ensures .0) (co .collect .last .0) (so .sort-words .last .0) (co .collect .ensures .1) (so .sort-words .ensures .0) (sorted-long so) (ov .over-keys .last .0) (ov .over-keys .result) (ov .over-keys .ensures .0) (over-long ov) (ov .over-keys .ensures .1) f g _ (wr .write-recording .ensures .1 .1 .1)),
-      ),
-    )
+    let k = wr .write-recording .ensures in
+    admitted.stores (s hd0 .args .w) (s hd0 .args .refs .now) (s hd0 .args .posts .now) (s hd0 .args .stops .now) (s hd0 .args .hashes .now) (s hd0 .args .limit) (s hd0 .args .rate) (s hd0 .pre) (hd0 .header .result) (hd0 .header .ensures) (co .collect .result) (co .collect .ensures .0) (co .collect .last .0) (so .sort-words .last .0) (co .collect .ensures .1) (so .sort-words .ensures .0) (sorted-long so) (ov .over-keys .last .0) (ov .over-keys .result) (ov .over-keys .ensures .0) (over-long ov) (ov .over-keys .ensures .1) (so .before .before .if1 .left) (el .if2 .left) _ _ _ _ (k .0) (k .1 .0) (k .1 .1 .0) (k .1 .1 .1)
 
 pub admit-spec : {M : Type 1} → statement M
 admit-spec =

@@ -3,7 +3,7 @@ use mathlib.Core.Path.{_≡_, sym, ap, _∙_}
 use mathlib.Core.Bool.{true}
 use Prim.Native.Nat.{_≤_}
 use native.Mathlib.Omega.{arith}
-use Rattle.model.specs.Calls.{Answer, refused}
+use Rattle.model.specs.Calls.{refused}
 use Rattle.model.specs.Words.{Words, slicesListed}
 use Rattle.model.specs.Soundness.{soundWords}
 use Rattle.soundness.specs.Scan.{words, refusalOf}
@@ -52,13 +52,8 @@ returns : tie.Need-returns
 returns c =
     let r = c .before in
     let q = r .refusal-of .ensures in
-    let e = refused-early (s r .args .w) (m r) (s r .args .limit) (s r .args .rate) (s r .args .hashes .now) (w2 r) (λ z. c .if1 .taken (q ∙ z)) in (
-      ap refused q ∙ sym (ap (λ (o : Answer × Words). o .0) e),
-      (
-        sym (ap (λ (o : Answer × Words). o .1 .references) e),
-        (sym (ap (λ (o : Answer × Words). o .1 .postings) e), sym (ap (λ (o : Answer × Words). o .1 .stopped) e)),
-      ),
-    )
+    let e = refused-early (s r .args .w) (m r) (s r .args .limit) (s r .args .rate) (s r .args .hashes .now) (w2 r) (λ z. c .if1 .taken (q ∙ z)) in
+    ap (λ n. (refused n, m r)) q ∙ sym e
 
 is-malformed-requires : tie.Need-is-malformed-requires
 is-malformed-requires c κs = search needs
@@ -76,13 +71,7 @@ returns-2 : tie.Need-returns-2
 returns-2 c =
     let g = c .before .before in
     let r = d g in
-    let e = refused-3 (s r .args .w) (m r) (s r .args .limit) (s r .args .rate) (s r .args .hashes .now) (w2 r) (sound g .0) (sound g .1) (sym (c .before .is-malformed .ensures) ∙ c .if2 .taken) in (
-      sym (ap (λ (o : Answer × Words). o .0) e),
-      (
-        sym (ap (λ (o : Answer × Words). o .1 .references) e),
-        (sym (ap (λ (o : Answer × Words). o .1 .postings) e), sym (ap (λ (o : Answer × Words). o .1 .stopped) e)),
-      ),
-    )
+    sym (refused-3 (s r .args .w) (m r) (s r .args .limit) (s r .args .rate) (s r .args .hashes .now) (w2 r) (sound g .0) (sound g .1) (sym (c .before .is-malformed .ensures) ∙ c .if2 .taken))
 
 is-full-requires : tie.Need-is-full-requires
 is-full-requires c κs =
@@ -104,15 +93,9 @@ returns-3 c =
     let mal = c .before .before .before .before in
     let g = mal .before in
     let r = d g in
-    let e = refused-5 (s r .args .w) (m r) (s r .args .limit) (s r .args .rate) (s r .args .hashes .now) (w2 r) (sound g .0) (sound g .1)
+    sym (refused-5 (s r .args .w) (m r) (s r .args .limit) (s r .args .rate) (s r .args .hashes .now) (w2 r) (sound g .0) (sound g .1)
     (sym (mal .is-malformed .ensures) ∙ c .before .before .before .if2 .left)
-    (full-is (s r .args .w) (m r) (w2 r) (sound g .0) (sound g .1) ∙ sym (c .before .is-full .ensures) ∙ c .if3 .taken) in (
-      sym (ap (λ (o : Answer × Words). o .0) e),
-      (
-        sym (ap (λ (o : Answer × Words). o .1 .references) e),
-        (sym (ap (λ (o : Answer × Words). o .1 .postings) e), sym (ap (λ (o : Answer × Words). o .1 .stopped) e)),
-      ),
-    )
+    (full-is (s r .args .w) (m r) (w2 r) (sound g .0) (sound g .1) ∙ sym (c .before .is-full .ensures) ∙ c .if3 .taken))
 
 admit-requires : tie.Need-admit-requires
 admit-requires c κs =

@@ -4,11 +4,8 @@ use native.Mathlib.Omega.{arith}
 use borrow.Author.Needs.{needs}
 use Rattle.soundness.specs.Scan.{words}
 use Rattle.soundness.proofs.Refusal.{accepted}
-use Rattle.model.specs.Calls.{Answer, refused}
-use Rattle.model.specs.Words.{Words}
+use Rattle.model.specs.Calls.{refused}
 use Rattle.remove.proofs.Runs.{count-refused, count-done, header-there, vacant-few}
-use borrow.Author.Needs.{needs}
-use borrow.Author.Needs.{needs}
 use Rattle.remove.proofs.live_count.Statement.{statement}
 use Rattle.remove.proofs.live_count.Tie as tie
 
@@ -19,7 +16,7 @@ returns : tie.Need-returns
 returns c = let s = c .before .before .before .before .before in
     let r = c .before .refusal-of in
     let e = count-refused (s .args .w) (words (s .args .refs .now) (s .args .posts .now) (s .args .stops .now)) (omega arith) (λ q. c .if1 .taken (r .ensures ∙ q)) in
-    (ap refused (r .ensures) ∙ sym (ap (λ (o : Answer × Words). o .0) e), sym (ap (λ (o : Answer × Words). o .1) e))
+    ap (λ n. (refused n, words (s .args .refs .now) (s .args .posts .now) (s .args .stops .now))) (r .ensures) ∙ sym e
 
 at-requires : tie.Need-at-requires
 at-requires c κs = let s = c .before .before .before .before .before in
@@ -40,7 +37,7 @@ returns-2 : tie.Need-returns-2
 returns-2 c = let s = c .before .before .before .before .before .before .before in
     let a = accepted (s .args .w) (words (s .args .refs .now) (s .args .posts .now) (s .args .stops .now)) (sym (c .before .before .before .refusal-of .ensures) ∙ c .before .before .if1 .left) in
     let e = count-done (s .args .w) (s .args .refs .now) (s .args .posts .now) (s .args .stops .now) (s .pre .0) (a .0) (a .1) in
-    (rw (c .at2 .ensures, c .before .at .ensures) (sym (ap (λ (o : Answer × Words). o .0) e)), sym (ap (λ (o : Answer × Words). o .1) e))
+    rw (c .at2 .ensures, c .before .at .ensures) (sym e)
 
 pub live-count-spec : {M : Type 1} → statement M
 live-count-spec =

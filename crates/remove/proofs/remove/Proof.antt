@@ -1,15 +1,15 @@
 -- `remove::remove` meets its contract. Assumes nothing.
-use mathlib.Core.Path.{sym, ap, _∙_}
+use mathlib.Core.Path.{sym, ap, ap₂, _∙_}
+use mathlib.Core.Bool.{true}
+use mathlib.Core.List.{List}
+use Prim.Native.Nat.{ℕ}
 use native.Mathlib.Omega.{arith}
 use borrow.Author.Tests.{not-true, not-false}
 use borrow.Author.Needs.{needs}
 use Rattle.soundness.specs.Scan.{words}
 use Rattle.soundness.proofs.Refusal.{accepted}
-use Rattle.model.specs.Calls.{Answer, refused}
-use Rattle.model.specs.Words.{Words}
+use Rattle.model.specs.Calls.{removed, refused}
 use Rattle.remove.proofs.Runs.{remove-refused, remove-dead, remove-live, header-there, rows-there, erasable}
-use borrow.Author.Needs.{needs}
-use borrow.Author.Needs.{needs}
 use Rattle.remove.proofs.remove.Statement.{statement}
 use Rattle.remove.proofs.remove.Tie as tie
 
@@ -26,7 +26,7 @@ returns : tie.Need-returns
 returns c = let s = c .before .before .before .before .before .before .before in
     let r = c .before .refusal-of in
     let e = remove-refused (s .args .w) (words (s .args .refs .now) (s .args .posts .now) (s .args .stops .now)) (omega arith) (λ q. c .if1 .taken (r .ensures ∙ q)) (s .args .id) in
-    (ap refused (r .ensures) ∙ sym (ap (λ (o : Answer × Words). o .0) e), (sym (ap (λ (o : Answer × Words). o .1 .references) e), (sym (ap (λ (o : Answer × Words). o .1 .postings) e), sym (ap (λ (o : Answer × Words). o .1 .stopped) e))))
+    ap (λ n. (refused n, words (s .args .refs .now) (s .args .posts .now) (s .args .stops .now))) (r .ensures) ∙ sym e
 
 is-live-requires : tie.Need-is-live-requires
 is-live-requires c κs = let s = c .before .before .before .before .before .before .before .before in
@@ -42,8 +42,7 @@ same-length-4 c = search needs
 returns-2 : tie.Need-returns-2
 returns-2 c = let s = c .before .before .before .before .before .before .before .before .before .before in
     let a = accepted (s .args .w) (words (s .args .refs .now) (s .args .posts .now) (s .args .stops .now)) (sym (c .before .before .before .before .refusal-of .ensures) ∙ c .before .before .before .if1 .left) in
-    let e = remove-dead (s .args .w) (s .args .refs .now) (s .args .posts .now) (s .args .stops .now) (s .pre .0) (a .0) (a .1) (s .args .id) (sym (c .before .is-live .ensures) ∙ not-true _ (c .if2 .taken)) in
-    (sym (ap (λ (o : Answer × Words). o .0) e), (sym (ap (λ (o : Answer × Words). o .1 .references) e), (sym (ap (λ (o : Answer × Words). o .1 .postings) e), sym (ap (λ (o : Answer × Words). o .1 .stopped) e))))
+    sym (remove-dead (s .args .w) (s .args .refs .now) (s .args .posts .now) (s .args .stops .now) (s .pre .0) (a .0) (a .1) (s .args .id) (sym (c .before .is-live .ensures) ∙ not-true _ (c .if2 .taken)))
 
 erase-requires : tie.Need-erase-requires
 erase-requires c κs = let s = c .before .before .before .before .before .before .before .before .before .before .before .before in
@@ -61,7 +60,7 @@ returns-3 c = let s = c .before .before .before .before .before .before .before 
     let a = accepted (s .args .w) (words (s .args .refs .now) (s .args .posts .now) (s .args .stops .now)) (sym (c .before .before .before .before .before .before .before .before .before .before .before .refusal-of .ensures) ∙ c .before .before .before .before .before .before .before .before .before .before .if1 .left) in
     let e = remove-live (s .args .w) (s .args .refs .now) (s .args .posts .now) (s .args .stops .now) (s .pre .0) (a .0) (a .1) (s .args .id) (sym (c .before .before .before .before .before .before .before .before .is-live .ensures) ∙ not-false _ (c .before .before .before .before .before .before .before .if2 .left)) in
     let f = c .before .before .before .before .erase .ensures in
-    (sym (ap (λ (o : Answer × Words). o .0) e), (f .0 ∙ sym (ap (λ (o : Answer × Words). o .1 .references) e), (f .1 ∙ sym (ap (λ (o : Answer × Words). o .1 .postings) e), sym (ap (λ (o : Answer × Words). o .1 .stopped) e))))
+    ap₂ (λ (rs ps : List ℕ). (removed true, words rs ps (s .args .stops .now))) (f .0) (f .1) ∙ sym e
 
 pub remove-spec : {M : Type 1} → statement M
 remove-spec =

@@ -3,9 +3,10 @@ use Rattle.sheet_card.proofs.Reading.{Whole, whole-is, is-whole, record
 use Rattle.sheet_card.proofs.Turns.{nothing-is, turn-last, turn-record}
 use Rattle.sheet_card.specs.Turns.{Outcome, advanced}
 use Rattle.sheet_text.proofs.Puts.{as-text}
-use Rattle.soundness.specs.Scan.{words}
+use Rattle.soundness.specs.Scan.{lent}
 use Rattle.model.specs.Words.{Words}
 use Rattle.sheet_records.specs.Step.{stepOf}
+use Rattle.sheet_records.proofs.Steps.{stepped-as}
 use Rattle.sheet_kinds.specs.Kinds.{goodLength}
 use lib.Dec.{eqb}
 use lib.ListN.{length, getD}
@@ -28,7 +29,7 @@ abbrev bytes : tie.Else1 → List ℕ
 bytes c = now (start c .args .bytes)
 
 abbrev store : tie.Else1 → Words
-store c = words (now (start c .args .refs)) (now (start c .args .postings)) (now (start c .args .stopped))
+store c = lent (start c .args .refs) (start c .args .postings) (start c .args .stopped)
 
 is-whole-here : (c : tie.Else1) → Whole (bytes c)
 is-whole-here c = whole-is (bytes c) (sym (c .before .is-whole .ensures) ∙ not-false (c .before .is-whole .result) (c .if1 .left))
@@ -59,7 +60,7 @@ returns c =
     let w = c .before .before .before .before .before .before .is-whole in
     let e =
     sym
-    (turn-last (words (now (s .args .refs)) (now (s .args .postings)) (now (s .args .stopped))) (s .args .p) (now (s .args .bytes))
+    (turn-last (lent (s .args .refs) (s .args .postings) (s .args .stopped)) (s .args .p) (now (s .args .bytes))
     (eqb (length (now (s .args .bytes))) 0) (nothing-is (now (s .args .bytes))) (sym (w .ensures) ∙ not-true (w .result) (c .before .before .before .before .before .if1 .taken))) in
     let p = c .before .before .before .put-last .ensures in
     (as-text (p .0) (ap (λ (o : Outcome). o .line) e), (p .1, (ap (λ (o : Outcome). o .store) e, (c .stop .ensures ∙ ap (λ (o : Outcome). o .next) e, s .pre .1))))
@@ -116,7 +117,8 @@ returns-2 c =
     let e = sym (turn-record m q s (is-whole s (is-whole-here (l .before)))) in
     let k = ap (λ (r : List ℕ). stepOf m r) (part-is s (l .length-at .result) (l .length-at .ensures .0)) in
     let p = stepped (c .before) .step .ensures in
-    (as-text (p .0) (ap (λ (y : List ℕ × Words). y .0) k ∙ ap (λ (o : Outcome). o .line) e), (p .1 .0, (p .1 .1 .0 ∙ ap (λ (y : List ℕ × Words). y .1) k ∙ ap (λ (o : Outcome). o .store) e, (c .advance .ensures ∙ ap (λ (n : ℕ). advanced q n) (l .length-at .ensures .0) ∙ ap (λ (o : Outcome). o .next) e, p .1 .1 .1))))
+    let f = stepped-as (p .0) k in
+    (as-text (f .line) (ap (λ (o : Outcome). o .line) e), (f .short, (f .store ∙ ap (λ (o : Outcome). o .store) e, (c .advance .ensures ∙ ap (λ (n : ℕ). advanced q n) (l .length-at .ensures .0) ∙ ap (λ (o : Outcome). o .next) e, p .1))))
 
 pub turn-spec : {M : Type 1} → statement M
 turn-spec =

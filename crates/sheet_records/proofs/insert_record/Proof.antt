@@ -1,17 +1,16 @@
 -- `sheet_records::insert_record` meets its contract. Assumes nothing.
-use Rattle.sheet_records.proofs.Steps.{done}
+use Rattle.sheet_records.proofs.Steps.{stepped-by}
 use Rattle.lists.proofs.Entries.{rest-all}
 use Rattle.insert.specs.Insert.{insertionAnswer}
 use Rattle.model.specs.Calls.{insert}
-use Rattle.sheet_text.proofs.Puts.{as-text}
 use Rattle.wang_judge.specs.Scheme.{wang}
-use Rattle.soundness.specs.Scan.{words}
+use Rattle.soundness.specs.Scan.{lent}
 use Rattle.model.specs.Run.{run}
 use lib.ListN.{getD}
 use denote.Ref.{now}
 use Prim.Native.Nat.{ℕ}
 use mathlib.Core.List.{List}
-use mathlib.Core.Path.{ap}
+use mathlib.Core.Path.{ap, _∙_}
 use borrow.Author.Needs.{needs}
 use Rattle.sheet_records.proofs.insert_record.Statement.{statement}
 use Rattle.sheet_records.proofs.insert_record.Tie as tie
@@ -50,7 +49,13 @@ same-length-4 : tie.Need-same-length-4
 same-length-4 c = search needs
 
 returns : tie.Need-returns
-returns c = let a = c .before .before .before .before .before .before .before .before .before .before .before .before .before .before .before .before .before .before .before .before .before .before .args in let f = now (a .fields) in let m = words (now (a .refs)) (now (a .postings)) (now (a .stopped)) in let k = c .before .before .before .before .before .before .before .before .before .before .insert in let p = c .before .before .put-insertion .ensures in let d = done f _ _ _ (insertionAnswer (k .result)) _ _ (ap (λ (h : List ℕ). run wang m (insert (getD f 0 0) (getD f 1 0) h)) (rest-all f 2)) (k .ensures .0) (k .ensures .1 .0) (k .ensures .1 .1 .0) (k .ensures .1 .1 .1) in (as-text (p .0 (getD f 0 0)) (d .0), (p .1, d .1))
+returns c =
+    let a = c .before .before .before .before .before .before .before .before .before .before .before .before .before .before .before .before .before .before .before .before .before .before .args in
+    let f = now (a .fields) in
+    let k = c .before .before .before .before .before .before .before .before .before .before .insert in
+    let p = c .before .before .put-insertion .ensures in
+    stepped-by f (insertionAnswer (k .result)) (p .0 (getD f 0 0)) (p .1)
+    (k .ensures ∙ ap (λ (h : List ℕ). run wang (lent (a .refs) (a .postings) (a .stopped)) (insert (getD f 0 0) (getD f 1 0) h)) (rest-all f 2))
 
 pub insert-record-spec : {M : Type 1} → statement M
 insert-record-spec =

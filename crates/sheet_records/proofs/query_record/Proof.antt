@@ -1,12 +1,14 @@
 -- `sheet_records::query_record` meets its contract. Assumes nothing.
-use Rattle.sheet_records.proofs.Steps.{same-asked, zeros-length, query-done}
+use Rattle.sheet_records.proofs.Steps.{stepped-by, same-asked, zeros-length, still-zeros}
 use Rattle.lists.proofs.Entries.{rest-all}
-use Rattle.wang_query.specs.Arguments.{queryWith}
+use Rattle.model.specs.Calls.{query}
+use Rattle.model.specs.Query.{Query}
+use Rattle.model.specs.Run.{run}
+use Rattle.wang_judge.specs.Scheme.{wang}
 use Rattle.query_rank.specs.Answers.{findingAnswer}
-use lib.ListN.{length, getD, take, drop}
-use Prim.Native.Nat.{_-_}
-use Rattle.sheet_text.proofs.Puts.{as-text}
-use Rattle.soundness.specs.Scan.{words}
+use lib.ListN.{getD}
+use mathlib.Core.Path.{ap, _∙_}
+use Rattle.soundness.specs.Scan.{lent}
 use denote.Ref.{now}
 use borrow.Author.Needs.{needs}
 use Rattle.sheet_records.proofs.query_record.Statement.{statement}
@@ -55,14 +57,16 @@ same-length-2 : tie.Need-same-length-2
 same-length-2 c = search needs
 
 returns : tie.Need-returns
-returns c = let a = c .before .before .before .before .before .before .before .before .before .before .before .before .before .before .before .before .before .before .before .before .args in let f = now (a .fields) in
-    let k = c .before .before .before .before .before .query .ensures in
+returns c =
+    let s = c .before .before .before .before .before .before .before .before .before .before .before .before .before .before .before .before .before .before .before .before in
+    let a = s .args in
+    let f = now (a .fields) in
+    let k = c .before .before .before .before .before .query in
     let p = c .before .before .put-finding .ensures in
-    let z = c .before .before .before .before .before .before .before .before .before .before .before .before .before .before .before .before .before .before .before .before .pre .1 in
-    let q = queryWith (c .before .before .before .before .before .before .before .before .before .before .config-of .result) (c .before .before .before .before .before .before .before .before .f32-from-bits .result) (take (length f - 5) (drop 5 f)) (length (now (a .scratch))) in
-    let e = same-asked (c .before .before .before .before .before .before .before .before .before .before .config-of .ensures) (c .before .before .before .before .before .before .before .before .f32-from-bits .ensures) (rest-all f 5) (zeros-length (now (a .scratch)) z) in
-    let d = query-done f (words (now (a .refs)) (now (a .postings)) (now (a .stopped))) q (findingAnswer (c .before .before .before .before .before .query .result)) (now (a .scratch)) _ e z (k .0) (k .1 .0) (k .1 .1) in
-    (as-text (p .0 (getD f 0 0)) (d .0), (p .1, (d .1, d .2)))
+    let e = same-asked (c .before .before .before .before .before .before .before .before .before .before .config-of .ensures) (c .before .before .before .before .before .before .before .before .f32-from-bits .ensures) (rest-all f 5) (zeros-length (now (a .scratch)) (s .pre .1)) in (
+      stepped-by f (findingAnswer (k .result)) (p .0 (getD f 0 0)) (p .1) (k .ensures .0 ∙ ap (λ (q : Query wang). run wang (lent (a .refs) (a .postings) (a .stopped)) (query q)) e),
+      k .ensures .1 ∙ still-zeros (findingAnswer (k .result)) (now (a .scratch)) (s .pre .1),
+    )
 
 pub query-record-spec : {M : Type 1} → statement M
 query-record-spec =

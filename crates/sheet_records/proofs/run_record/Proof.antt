@@ -1,14 +1,9 @@
 -- `sheet_records::run_record` meets its contract. Assumes nothing.
 use Rattle.sheet_kinds.proofs.Lengths.{good-insert, good-remove, good-query}
-use Rattle.sheet_records.proofs.Steps.{step-at}
-use Rattle.sheet_text.proofs.Puts.{as-text}
+use Rattle.sheet_records.proofs.Steps.{stepped-as, step-at}
 use lib.ListN.{length}
-use Rattle.soundness.specs.Scan.{words}
-use Rattle.model.specs.Words.{Words}
+use Rattle.soundness.specs.Scan.{lent}
 use denote.Ref.{now}
-use Prim.Native.Nat.{ℕ}
-use mathlib.Core.List.{List}
-use mathlib.Core.Path.{ap, _∙_}
 use borrow.Author.Needs.{needs}
 use Rattle.sheet_records.proofs.run_record.Statement.{statement}
 use Rattle.sheet_records.proofs.run_record.Tie as tie
@@ -29,10 +24,10 @@ same-length-4 : tie.Need-same-length-4
 same-length-4 c = search needs
 
 returns : tie.Need-returns
-returns c = let a = c .before .before .before .before .before .before .before .before .before .before .before .before .before .before .before .before .before .before .before .args in let f = now (a .fields) in let m = words (now (a .refs)) (now (a .postings)) (now (a .stopped)) in
+returns c = let a = c .before .before .before .before .before .before .before .before .before .before .before .before .before .before .before .before .before .before .before .args in let f = now (a .fields) in let m = lent (a .refs) (a .postings) (a .stopped) in
     let p = c .before .before .before .before .before .before .before .before .insert-record .ensures in
     let s = step-at m f (a .kind) 1 (c .before .before .before .before .before .before .before .before .before .before .before .before .before .if1 .taken) in
-    (as-text (p .0) (ap (λ (y : List ℕ × Words). y .0) s), (p .1 .0, (p .1 .1 ∙ ap (λ (y : List ℕ × Words). y .1) s, c .before .before .before .before .before .before .before .before .before .before .before .before .before .before .before .before .before .before .before .pre .1)))
+    (stepped-as p s, c .before .before .before .before .before .before .before .before .before .before .before .before .before .before .before .before .before .before .before .pre .1)
 
 remove-record-requires : tie.Need-remove-record-requires
 remove-record-requires c κs = (good-remove (length (now (c .before .before .before .before .before .before .before .before .before .before .before .args .fields))) (c .before .before .before .before .before .before .before .before .before .before .before .args .kind) (c .before .before .before .before .before .before .before .before .before .before .before .pre .0 .0) (c .before .before .before .before .if2 .taken), search needs)
@@ -50,10 +45,10 @@ same-length-8 : tie.Need-same-length-8
 same-length-8 c = search needs
 
 returns-2 : tie.Need-returns-2
-returns-2 c = let a = c .before .before .before .before .before .before .before .before .before .before .before .before .before .before .before .before .before .before .args in let f = now (a .fields) in let m = words (now (a .refs)) (now (a .postings)) (now (a .stopped)) in
+returns-2 c = let a = c .before .before .before .before .before .before .before .before .before .before .before .before .before .before .before .before .before .before .args in let f = now (a .fields) in let m = lent (a .refs) (a .postings) (a .stopped) in
     let p = c .before .before .before .before .before .before .remove-record .ensures in
     let s = step-at m f (a .kind) 2 (c .before .before .before .before .before .before .before .before .before .before .before .if2 .taken) in
-    (as-text (p .0) (ap (λ (y : List ℕ × Words). y .0) s), (p .1 .0, (p .1 .1 ∙ ap (λ (y : List ℕ × Words). y .1) s, c .before .before .before .before .before .before .before .before .before .before .before .before .before .before .before .before .before .before .pre .1)))
+    (stepped-as p s, c .before .before .before .before .before .before .before .before .before .before .before .before .before .before .before .before .before .before .pre .1)
 
 query-record-requires : tie.Need-query-record-requires
 query-record-requires c κs = ((good-query (length (now (c .before .before .before .before .before .before .before .before .before .before .before .before .args .fields))) (c .before .before .before .before .before .before .before .before .before .before .before .before .args .kind) (c .before .before .before .before .before .before .before .before .before .before .before .before .pre .0 .0) (c .before .before .before .before .before .before .if1 .left) (c .before .before .before .before .before .if2 .left) .1, search needs), c .before .before .before .before .before .before .before .before .before .before .before .before .pre .1)
@@ -74,10 +69,10 @@ same-length-13 : tie.Need-same-length-13
 same-length-13 c = search needs
 
 returns-3 : tie.Need-returns-3
-returns-3 c = let a = c .before .before .before .before .before .before .before .before .before .before .before .before .before .before .before .before .args in let f = now (a .fields) in let m = words (now (a .refs)) (now (a .postings)) (now (a .stopped)) in
+returns-3 c = let a = c .before .before .before .before .before .before .before .before .before .before .before .before .before .before .before .before .args in let f = now (a .fields) in let m = lent (a .refs) (a .postings) (a .stopped) in
     let p = c .before .before .before .query-record .ensures in
     let s = step-at m f (a .kind) 3 (good-query (length (now (c .before .before .before .before .before .before .before .before .before .before .before .before .before .before .before .before .args .fields))) (c .before .before .before .before .before .before .before .before .before .before .before .before .before .before .before .before .args .kind) (c .before .before .before .before .before .before .before .before .before .before .before .before .before .before .before .before .pre .0 .0) (c .before .before .before .before .before .before .before .before .before .before .if1 .left) (c .before .before .before .before .before .before .before .before .before .if2 .left) .0) in
-    (as-text (p .0) (ap (λ (y : List ℕ × Words). y .0) s), (p .1 .0, (p .1 .1 .0 ∙ ap (λ (y : List ℕ × Words). y .1) s, p .1 .1 .1)))
+    (stepped-as (p .0) s, p .1)
 
 pub run-record-spec : {M : Type 1} → statement M
 run-record-spec =

@@ -1,16 +1,12 @@
 -- `sheet_records::step` meets its contract. Assumes nothing.
 use Rattle.sheet_kinds.proofs.Lengths.{good-long, good-words}
-use Rattle.sheet_records.proofs.Steps.{step-of}
-use Rattle.sheet_text.proofs.Puts.{as-text}
-use Rattle.soundness.specs.Scan.{words}
-use Rattle.model.specs.Words.{Words}
+use Rattle.sheet_records.proofs.Steps.{stepped-as, step-of}
+use Rattle.soundness.specs.Scan.{lent}
 use lib.Seq.{length-take-le}
 use lib.ListN.{length, getD}
 use denote.Ref.{now}
 use native.Mathlib.Omega.{arith}
-use Prim.Native.Nat.{ℕ}
-use mathlib.Core.List.{List}
-use mathlib.Core.Path.{sym, ap, _∙_}
+use mathlib.Core.Path.{sym, _∙_}
 use borrow.Author.Needs.{needs}
 use Rattle.sheet_records.proofs.step.Statement.{statement}
 use Rattle.sheet_records.proofs.step.Tie as tie
@@ -52,8 +48,8 @@ returns : tie.Need-returns
 returns c =
     let a = c .before .before .before .before .before .before .before .before .before .before .before .before .before .before .before .before .before .before .before .before .before .before .before .before .before .args in
     let p = c .before .before .before .before .before .before .before .before .before .run-record .ensures in
-    let s = step-of (words (now (a .refs)) (now (a .postings)) (now (a .stopped))) (now (a .bytes)) _ (c .before .before .before .before .before .before .before .before .before .before .before .before .before .before .before .before .before .before .read-fields .ensures .1 .0) in
-    (as-text (p .0) (ap (λ (y : List ℕ × Words). y .0) s), (p .1 .0, (p .1 .1 .0 ∙ ap (λ (y : List ℕ × Words). y .1) s, p .1 .1 .1)))
+    let s = step-of (lent (a .refs) (a .postings) (a .stopped)) (now (a .bytes)) _ (c .before .before .before .before .before .before .before .before .before .before .before .before .before .before .before .before .before .before .read-fields .ensures .1 .0) in
+    (stepped-as (p .0) s, p .1)
 
 pub step-spec : {M : Type 1} → statement M
 step-spec =

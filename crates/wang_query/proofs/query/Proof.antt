@@ -1,30 +1,56 @@
 -- `wang_query::query` meets its contract. Assumes nothing.
+use mathlib.Core.Path.{_≡_, refl, sym, ap, _∙_}
+use Prim.Native.Nat.{ℕ, _^_, _<_}
 use native.Mathlib.Omega.{arith}
-use Rattle.soundness.specs.Scan.{words}
-use Rattle.query_rank.specs.Answers.{findingAnswer}
-use Rattle.wang_query.proofs.Queries.{refused-is, searchable, few-votes, found-is}
+use lib.ListN.{length, getD}
+use Rattle.model.specs.Calls.{Answer}
+use Rattle.model.specs.Words.{Words}
+use Rattle.soundness.specs.Scan.{lent}
+use Rattle.query_rank.specs.Answers.{findingAnswer, scratchAfter}
+use Rattle.query_refusals.specs.Early.{earlyRefusal}
+use Rattle.query_laws.proofs.Queries.{refused-is}
+use Rattle.wang_judge.specs.Scheme.{Ask, beyond, wang}
+use Rattle.wang_query.proofs.Queries.{searchable, few-votes, found-is}
 use borrow.Author.Needs.{needs}
 use Rattle.wang_query.proofs.query.Statement.{statement}
 use Rattle.wang_query.proofs.query.Tie as tie
+
+-- once the first four refusals are looked at
+module _ (d : tie.After-of-query) where
+  abbrev s : tie.Start
+  s = d .before .before .before .before .before .before
+
+  abbrev m : Words
+  m = lent (s .args .refs) (s .args .posts) (s .args .stops)
+
+  abbrev ask : Ask
+  ask = record { cfg = s .args .cfg; rate = s .args .frames-per-sec }
+
+  early : d .of-query .result ≡ earlyRefusal 3 6 m (length (s .args .s .now)) (s .args .hashes .now) (beyond (s .args .cfg))
+  unfolding beyond
+  early = d .of-query .ensures
+
+  bits : (i : ℕ) → getD (s .args .hashes .now) i 0 < 2 ^ 32
+  bits i = omega (arith, d .before .before .shared-slice-known4 .given i)
 
 of-query-requires : tie.Need-of-query-requires
 of-query-requires c κs = search needs
 
 returns : tie.Need-returns
 returns c =
-    let a = c .before .before .before .before .before .before .before .args in
-    refused-is (words (a .refs .now) (a .posts .now) (a .stops .now)) (record { cfg = a .cfg; rate = a .frames-per-sec }) (a .hashes .now) (a .s .now) (c .before .of-query .result) (c .before .of-query .ensures) (c .if1 .taken)
+    let d = c .before in
+    (refused-is wang (omega arith) (m d) (ask d) (s d .args .hashes .now) (s d .args .s .now) (d .of-query .result) (early d) (c .if1 .taken), refl)
 
 query-of-requires : tie.Need-query-of-requires
 query-of-requires c κs = search needs
 
 search-requires : tie.Need-search-requires
 search-requires c κs =
-    let a = c .before .before .before .before .before .before .before .before .before .args in
-    let m = words (a .refs .now) (a .posts .now) (a .stops .now) in
+    let d = c .before .before .before in
+    let z = c .before .before .if1 .left in
     rw (c .query-of .ensures) (
-      searchable m (record { cfg = a .cfg; rate = a .frames-per-sec }) (a .hashes .now) (a .s .now) (c .before .before .before .of-query .result) (c .before .before .before .of-query .ensures) (c .before .before .if1 .left) (λ i. omega (arith, c .before .before .before .before .before .shared-slice-known4 .given i)),
-      few-votes m (record { cfg = a .cfg; rate = a .frames-per-sec }) (a .hashes .now) (a .s .now) (c .before .before .before .of-query .result) (c .before .before .before .of-query .ensures) (c .before .before .if1 .left) (λ i. omega (arith, c .before .before .before .before .before .shared-slice-known4 .given i)),
+      searchable (m d) (ask d) (s d .args .hashes .now) (s d .args .s .now) (d .of-query .result) (early d) z (bits d),
+      few-votes (m d) (ask d) (s d .args .hashes .now) (s d .args .s .now) (d .of-query .result) (early d) z (bits d),
     )
 
 same-length : tie.Need-same-length
@@ -32,11 +58,12 @@ same-length c = search needs
 
 returns-2 : tie.Need-returns-2
 returns-2 c =
-    let a = c .before .before .before .before .before .before .before .before .before .before .before .args in
-    let answer = rw (c .before .before .query-of .ensures) at (c .before .search .ensures .0) in
-    let scratch = rw (c .before .before .query-of .ensures) at (c .before .search .ensures .1) in
-    found-is (words (a .refs .now) (a .posts .now) (a .stops .now)) (record { cfg = a .cfg; rate = a .frames-per-sec }) (a .hashes .now) (a .s .now) (c .before .before .before .before .before .of-query .result) (c .before .before .before .before .before .of-query .ensures) (c .before .before .before .before .if1 .left)
-    (λ i. omega (arith, c .before .before .before .before .before .before .before .shared-slice-known4 .given i)) (λ i. omega (arith, c .before .before .before .before .before .before .before .before .before .shared-slice-known2 .given i)) (findingAnswer (c .before .search .result)) (c .before .search .last .0) answer scratch
+    let d = c .before .before .before .before .before in
+    let k = c .before .search .ensures in (
+      found-is (m d) (ask d) (s d .args .hashes .now) (s d .args .s .now) (d .of-query .result) (early d) (c .before .before .before .before .if1 .left) (bits d)
+          (λ i. omega (arith, d .before .before .before .before .shared-slice-known2 .given i)) (findingAnswer (c .before .search .result)) (rw (c .before .before .query-of .ensures) at (k .0)),
+      k .1 ∙ ap (λ (x : Answer). scratchAfter x (s d .args .s .now)) (sym (k .0)),
+    )
 
 pub query-spec : {M : Type 1} → statement M
 query-spec =

@@ -1,6 +1,5 @@
 -- `capi::index::panako_index_live_count` meets its contract. Assumes nothing.
-use mathlib.Core.Path.{ap, _∙_}
-use Rattle.capi.specs.Answers.{answerWords}
+use Rattle.capi.proofs.Answered.{answered}
 use borrow.Author.Needs.{needs}
 use Rattle.capi.proofs.index.panako_index_live_count.Statement.{statement}
 use Rattle.capi.proofs.index.panako_index_live_count.Tie as tie
@@ -12,7 +11,7 @@ put-count-requires : tie.Need-put-count-requires
 put-count-requires c κs = search needs
 
 returns : tie.Need-returns
-returns c = c .put-count .ensures ∙ ap (λ a. answerWords a) (c .before .live-count .ensures .0)
+returns c = answered (c .before .live-count .ensures) (c .put-count .ensures)
 
 pub panako-index-live-count-spec : {M : Type 1} → statement M
 panako-index-live-count-spec = tie.close (tie.spec live-count-requires put-count-requires returns)
