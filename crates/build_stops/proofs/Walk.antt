@@ -64,7 +64,7 @@ module _ (words : List ℕ) (v : ℕ) (lengths : List ℕ) where
     codes-small : All (λ c. c < top) (codes words v lengths)
     unfolding codes hashCode
     codes-small = all-map (hashCode words v lengths) (λ c. c < top) (ranksFrom 0 lengths)
-        (all-imp (λ r. r < 33554432) (λ r. hashCode words v lengths r < top) (λ r h. omega (arith, fit .keys (v * Rattle.build_ranges.specs.Codes.placeOf lengths r))) (ranksFrom 0 lengths) (ranks-small words v lengths fit))
+        (all-imp (λ r. r < 33554432) (λ r. hashCode words v lengths r < top) (λ r h. omega (arith, fit .keys (v * Rattle.build_ranges.specs.Codes.hashPlace lengths r))) (ranksFrom 0 lengths) (ranks-small words v lengths fit))
 
     pub done-all : (lo : ℕ) → top ≤ lo → done lo ≡ inOrder words v lengths
     unfolding inOrder

@@ -14,7 +14,7 @@ panako-peak-offset-requires c κs = search needs
 scale-at-requires : tie.Need-scale-at-requires
 scale-at-requires c κs = search needs
 
-time-scale-of-requires : tie.Need-time-time-scale-of-requires
+time-scale-of-requires : tie.Need-time-scale-of-requires
 time-scale-of-requires c κs = search needs
 
 result-requires : tie.Need-result-requires
