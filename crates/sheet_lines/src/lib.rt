@@ -9,7 +9,7 @@ ghost use Rattle.remove.specs.Answers.{removalAnswer};
 ghost use Rattle.query_rank.specs.Answers.{findingAnswer};
 ghost use Rattle.sheet_text.specs.Bytes.{newline};
 ghost use Rattle.sheet_lines.specs.Lines.{place, flag, offsetText, matchText, answerLine};
-ghost use Rattle.sheet_text.specs.Put.{Put};
+ghost use Rattle.sheet_text.specs.Put.{lineMost, Put};
 use insert::Insertion;
 use matching::MatchResult;
 use matching::TimeOffset;
@@ -74,9 +74,9 @@ fn put_removed(line: &mut [u8], at: usize, id: u32, b: bool) -> usize
 }
 
 pub fn put_removal(line: &mut [u8], at: usize, id: u32, r: Removal) -> usize
-    requires { ⌜ at + 128 ≤ length (now line) ⌝ }
+    requires { ⌜ at + lineMost ≤ length (now line) ⌝ }
     ensures { λ e. ⌜ Put (now (line .entry)) (now (line .exit)) at e (answerLine id (removalAnswer r)) ⌝ }
-    ensures { λ e. ⌜ e ≤ at + 128 ⌝ }
+    ensures { λ e. ⌜ e ≤ at + lineMost ⌝ }
 {
     match r {
         Removal::Refused(n) => sheet_text::put_short(line, at, 82, n as u64),
@@ -85,9 +85,9 @@ pub fn put_removal(line: &mut [u8], at: usize, id: u32, r: Removal) -> usize
 }
 
 pub fn put_insertion(line: &mut [u8], at: usize, r: Insertion) -> usize
-    requires { ⌜ at + 128 ≤ length (now line) ⌝ }
+    requires { ⌜ at + lineMost ≤ length (now line) ⌝ }
     ensures { λ e. ⌜ ((asked : ℕ) → Put (now (line .entry)) (now (line .exit)) at e (answerLine asked (insertionAnswer r))) ⌝ }
-    ensures { λ e. ⌜ e ≤ at + 128 ⌝ }
+    ensures { λ e. ⌜ e ≤ at + lineMost ⌝ }
 {
     match r {
         Insertion::Refused(n) => sheet_text::put_short(line, at, 82, n as u64),
@@ -116,9 +116,9 @@ fn put_nothing(line: &mut [u8], at: usize) -> usize
 }
 
 pub fn put_finding(line: &mut [u8], at: usize, r: Finding) -> usize
-    requires { ⌜ at + 128 ≤ length (now line) ⌝ }
+    requires { ⌜ at + lineMost ≤ length (now line) ⌝ }
     ensures { λ e. ⌜ ((asked : ℕ) → Put (now (line .entry)) (now (line .exit)) at e (answerLine asked (findingAnswer r))) ⌝ }
-    ensures { λ e. ⌜ e ≤ at + 128 ⌝ }
+    ensures { λ e. ⌜ e ≤ at + lineMost ⌝ }
 {
     match r {
         Finding::Refused(n) => sheet_text::put_short(line, at, 82, n as u64),

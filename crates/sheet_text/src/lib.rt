@@ -11,6 +11,9 @@ ghost use lib.ListN.{length};
 ghost use Rattle.sheet_text.specs.Bytes.{decimal, sign, signed, hexDigit, hexDigits, floatBits, field, newline};
 ghost use Rattle.sheet_text.specs.Put.{Put};
 
+// The most bytes of a line, as `lineMost` has it.
+pub const LINE_MOST: usize = 128;
+
 pub fn put_byte(line: &mut [u8], at: usize, b: u8) -> usize
     requires { ⌜ at < length (now line) ⌝ }
     ensures { λ r. ⌜ Put (now (line .entry)) (now (line .exit)) at r (b ∷ []) ⌝ }
