@@ -23,14 +23,14 @@ use Rattle.build_entries.proofs.Placing.{Names, place-small, order-names}
 use Rattle.model.specs.Fingerprints.{Fingerprint, hashesOf, fingerprintsOf, hashCount, uneven, malformedBuild, referenceMost}
 use Rattle.model.specs.Rows.{rowOf}
 use Rattle.model.specs.Index.{empty, numbered, builtFrom, postingsAfter, stoppedAfter}
-use Rattle.model.specs.Calls.{Store, holds, isUnlisted, Answer, built, refused, outcome, refusal, buildTests, buildStep}
-use Rattle.model.specs.Words.{Words, sizesOf, slicesListed, write, postingWords, rowEntries}
-use Rattle.model.specs.Run.{storeOf, onWords, runBuild}
+use Rattle.model.specs.Calls.{Store, holds, isUnlisted, Answer, built, refused, outcome, refusal, buildTests, buildStep, Outcome, numberOf}
+use Rattle.model.specs.Words.{Words, sizesOf, slicesListed, write, postingWords, rowEntries, headWidth, rowWidth}
+use Rattle.model.specs.Run.{storeOf, onWords, runBuild, laidOut}
 use Rattle.model.proofs.Stores.{references-long, postings-long, stopped-long, store-again}
 use Rattle.model.proofs.Fingerprints.{length-divided, length-numbered}
 use Rattle.model.specs.Soundness.{soundWords}
 use Rattle.soundness.specs.Scan.{words}
-use Rattle.build.specs.Answers.{numberOf, buildRefusal, rowsFor}
+use Rattle.build.specs.Answers.{buildRefusal, rowsFor}
 use Rattle.build.proofs.Tests.{few-rows, some-rows, few-postings, few-stops}
 use Rattle.build.proofs.Order.{sorted-laid}
 use Rattle.build.proofs.Left.{laid-is, keys-is, kept-is, stopped-is, rows-is}
@@ -248,9 +248,9 @@ module _ (w : ℕ) (m : Words) (limit : ℕ) (hashes lengths rates : List ℕ) (
 -- ---- the tests of `refusal_of`
 
 module _ (w : ℕ) (refs posts stops : List ℕ) (limit : ℕ) (hashes lengths rates : List ℕ) (b : malformedBuild w hashes lengths rates ≡ false) where
-  pub rows-test : ltb (sizesOf w (words refs posts stops) .R) (length (fingerprintsOf w hashes lengths rates)) ≡ ltb ((length refs - 4) / 4) (length lengths)
+  pub rows-test : ltb (sizesOf w (words refs posts stops) .R) (length (fingerprintsOf w hashes lengths rates)) ≡ ltb ((length refs - headWidth) / rowWidth) (length lengths)
   unfolding sizesOf
-  rows-test = ap (ltb ((length refs - 4) / 4)) (length-divided (hashesOf w hashes) lengths rates (all-rated w hashes lengths rates b))
+  rows-test = ap (ltb ((length refs - headWidth) / rowWidth)) (length-divided (hashesOf w hashes) lengths rates (all-rated w hashes lengths rates b))
 
   pub postings-test : ltb (sizesOf w (words refs posts stops) .P) (length (numbered 0 (fingerprintsOf w hashes lengths rates))) ≡ ltb (length posts / w) (length hashes / (w - 1))
   unfolding sizesOf
@@ -269,7 +269,7 @@ module _ (w : ℕ) (refs posts stops : List ℕ) (limit : ℕ) (hashes lengths r
   abbrev b : malformedBuild w hashes lengths rates ≡ false
   b = a .well-formed
 
-  rows-room : length lengths ≤ (length refs - 4) / 4
+  rows-room : length lengths ≤ (length refs - headWidth) / rowWidth
   unfolding sizesOf
   rows-room = omega (arith, a .rows-fit, length-divided (hashesOf w hashes) lengths rates (all-rated w hashes lengths rates b))
 
@@ -283,7 +283,7 @@ module _ (w : ℕ) (refs posts stops : List ℕ) (limit : ℕ) (hashes lengths r
   pub accepted-rated : length rates ≡ length lengths
   accepted-rated = all-rated w hashes lengths rates b
 
-  pub accepted-rows : 4 + 4 * length lengths ≤ length refs
+  pub accepted-rows : headWidth + rowWidth * length lengths ≤ length refs
   accepted-rows = omega (arith, rows-room, some-rows w refs posts stops (omega arith) (a .listed-is))
 
   pub accepted-many : length hashes / (w - 1) ≡ sum lengths

@@ -13,7 +13,7 @@ use Rattle.lists.specs.Lists.{some?, sum}
 use Rattle.lists.proofs.Tests.{and-left, and-right}
 use Rattle.build_ranges.proofs.Ranks.{sum-more, sum-take}
 use Rattle.model.specs.Fingerprints.{uneven, hashCount, malformedBuild, referenceMost}
-use Rattle.model.specs.Words.{sizesOf, sizesListed, between, slicesListed}
+use Rattle.model.specs.Words.{sizesOf, sizesListed, between, slicesListed, headWidth, rowWidth}
 use Rattle.model.proofs.Stores.{sizes-listed}
 use Rattle.soundness.specs.Scan.{words}
 
@@ -21,7 +21,7 @@ use Rattle.soundness.specs.Scan.{words}
 
 module _ (w : ℕ) (refs posts stops : List ℕ) (w2 : 2 ≤ w) (l : slicesListed w (words refs posts stops) ≡ true) where
   abbrev R : ℕ
-  R = (length refs - 4) / 4
+  R = (length refs - headWidth) / rowWidth
 
   abbrev P : ℕ
   P = length posts / w
@@ -36,10 +36,10 @@ module _ (w : ℕ) (refs posts stops : List ℕ) (w2 : 2 ≤ w) (l : slicesListe
   room : between 1 1048576 P && between 1 65536 K ≡ true
   room = and-right (between 1 4096 R) (between 1 1048576 P && between 1 65536 K) sizes
 
-  pub few-rows : (length refs - 4) / 4 ≤ 4096
+  pub few-rows : (length refs - headWidth) / rowWidth ≤ 4096
   few-rows = leb-true R 4096 (and-right (leb 1 R) (leb R 4096) (and-left (between 1 4096 R) (between 1 1048576 P && between 1 65536 K) sizes))
 
-  pub some-rows : 1 ≤ (length refs - 4) / 4
+  pub some-rows : 1 ≤ (length refs - headWidth) / rowWidth
   some-rows = leb-true 1 R (and-left (leb 1 R) (leb R 4096) (and-left (between 1 4096 R) (between 1 1048576 P && between 1 65536 K) sizes))
 
   pub few-postings : length posts / w ≤ 1048576

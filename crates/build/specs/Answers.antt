@@ -1,13 +1,12 @@
 -- A build's answer as document 01's cases, its refusal, and its rows. Definitions only. Assumes nothing.
 use mathlib.Core.List.{List}
-use mathlib.Core.Option.{Option, none, some}
 use Prim.Native.Nat.{ℕ}
 use lib.ListN.{length, getD, take}
 use Rattle.lists.specs.Lists.{sum}
 use Rattle.build_ranges.specs.Codes.{tabulate}
 use Rattle.build_entries.specs.Laid.{rowFor}
 use Rattle.model.specs.Fingerprints.{fingerprintsOf, malformedBuild}
-use Rattle.model.specs.Calls.{Answer, built, refused, refusal, buildTests}
+use Rattle.model.specs.Calls.{Answer, built, refused, refusal, numberOf, buildTests}
 use Rattle.model.specs.Words.{Words, sizesOf}
 use Rattle.model.specs.Run.{storeOf}
 use Rattle.build.specs.declared.Building.{Building}
@@ -17,11 +16,6 @@ use Rattle.build.specs.declared.Building.the-variants.{Refused, Built}
 abbrev pub buildingAnswer : Building → Answer
 buildingAnswer (Refused n) = refused n
 buildingAnswer Built = built
-
--- the number of a refusal, 0 where there is none
-abbrev pub numberOf : Option ℕ → ℕ
-numberOf none = 0
-numberOf (some n) = n
 
 -- why a build is refused: "The lowest number that applies is returned."
 unfoldable pub buildRefusal : ℕ → Words → ℕ → List ℕ → List ℕ → List ℕ → ℕ

@@ -13,6 +13,7 @@ ghost use Rattle.build_entries.specs.Laid.{laidEntries};
 ghost use Rattle.model.specs.Fingerprints.{malformedBuild, referenceMost};
 ghost use Rattle.model.specs.Run.{runBuild};
 ghost use Rattle.soundness.specs.Scan.{words, lent};
+ghost use Rattle.model.specs.Words.{headWidth, rowWidth};
 ghost use Rattle.build.specs.Answers.{buildingAnswer, buildRefusal, rowsFor};
 use build_stops::Left;
 use postings::at;
@@ -79,7 +80,7 @@ fn refusal_of(
     if is_malformed(hashes, lengths, rates, w) {
         return 3;
     }
-    if (refs.len() - 4) / 4 < lengths.len() {
+    if (refs.len() - rows::HEAD_WIDTH) / rows::ROW_WIDTH < lengths.len() {
         return 5;
     }
     let v = w - 1;
@@ -129,7 +130,7 @@ fn put_references(
     p: usize,
     k: usize,
 )
-    requires { ⌜ (3 ≤ w) × (4 + 4 * length (now lengths) ≤ length (now refs)) × (length (now rates) ≡ length (now lengths)) × Fit (now hashes) (w - 1) (now lengths)
+    requires { ⌜ (3 ≤ w) × (headWidth + rowWidth * length (now lengths) ≤ length (now refs)) × (length (now rates) ≡ length (now lengths)) × Fit (now hashes) (w - 1) (now lengths)
         × (p < 0x1_0000_0000) × (k < 0x1_0000_0000) ⌝ }
     ensures { λ _. ⌜ now (refs .exit) ≡ padded (length (now (refs .entry))) (length (now (lengths .entry)) ∷ 0 ∷ p ∷ k
         ∷ flat (rowsFor (now (hashes .entry)) w (now (lengths .entry)) (now (rates .entry)))) ⌝ }
@@ -137,7 +138,7 @@ fn put_references(
     let n = lengths.len();
     rows::put_header(refs, n as u32, 0, p as u32, k as u32);
     build_entries::put_rows(refs, hashes, w, lengths, rates);
-    build_entries::clear_from(refs, 4 + 4 * n);
+    build_entries::clear_from(refs, rows::HEAD_WIDTH + rows::ROW_WIDTH * n);
 }
 
 // Builds a store from the hashes of all recordings, whatever it held.

@@ -10,6 +10,7 @@ use lib.ListN.{length, getD, take, drop, set, replicate, length-set, length-drop
 use lib.Seq.{drop-length, take-suc, take-suc-set, getD-drop, getD-set-same, getD-set-other}
 use Rattle.lists.specs.Lists.{flat, sum}
 use Rattle.lists.proofs.Keep.{flat-append, flat-one}
+use Rattle.model.specs.Words.{headWidth, rowWidth}
 use Rattle.postings.specs.Retain.{cleared}
 use Rattle.build_ranges.specs.Codes.{tabulate}
 use Rattle.build_ranges.proofs.Ranks.{listed-more}
@@ -119,13 +120,12 @@ entry-same p p′ w to key id h f i l =
 -- ---- rows, one behind the other
 
 module _ (f : ℕ → List ℕ) where
-  pub rows-none : (s : List ℕ) → take (4 + 4 * 0) s ≡ take 4 s ++ flat (tabulate f 0)
+  pub rows-none : (s : List ℕ) → take (headWidth + rowWidth * 0) s ≡ take headWidth s ++ flat (tabulate f 0)
   unfolding tabulate flat
   rows-none s = rw append-nil
 
-  pub rows-more : (s₀ s s′ : List ℕ) (i : ℕ) → take (4 + 4 * i) s ≡ take 4 s₀ ++ flat (tabulate f i) → take (4 + 4 * i + 4) s′ ≡ take (4 + 4 * i) s ++ f i
-      → take (4 + 4 * (i + 1)) s′ ≡ take 4 s₀ ++ flat (tabulate f (i + 1))
+  pub rows-more : (s₀ s s′ : List ℕ) (i : ℕ) → take (headWidth + rowWidth * i) s ≡ take headWidth s₀ ++ flat (tabulate f i) → take (headWidth + rowWidth * (i + 1)) s′ ≡ take (headWidth + rowWidth * i) s ++ f i
+      → take (headWidth + rowWidth * (i + 1)) s′ ≡ take headWidth s₀ ++ flat (tabulate f (i + 1))
   rows-more s₀ s s′ i e g =
-      let a : 4 + 4 * (i + 1) ≡ 4 + 4 * i + 4 = omega arith in
-      rw (a, listed-more f i, flat-append (tabulate f i) (f i ∷ []), flat-one (f i))
-      (g ∙ ap (λ l. l ++ f i) e ∙ append-assoc (take 4 s₀) (flat (tabulate f i)) (f i))
+      rw (listed-more f i, flat-append (tabulate f i) (f i ∷ []), flat-one (f i))
+      (g ∙ ap (λ l. l ++ f i) e ∙ append-assoc (take headWidth s₀) (flat (tabulate f i)) (f i))

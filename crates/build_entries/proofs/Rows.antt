@@ -11,6 +11,7 @@ use Rattle.lists.specs.Entries.{entries}
 use Rattle.lists.proofs.Entries.{entries-append, entries-fewer, entries-take, length-entries}
 use Rattle.model.specs.Fingerprints.{hashOf, hashesOf, hashCount}
 use Rattle.model.specs.Rows.{hasRmax, largestAnchor, canonical, rowOf}
+use Rattle.model.specs.Words.{headWidth, rowWidth, rowPlace, atRate, atRmax, atLive, atVacant}
 use Rattle.rows.specs.References.{rowPut, entryPut}
 use Rattle.build_entries.specs.Laid.{rowFor}
 use Rattle.build_entries.proofs.Prefix.{put-four}
@@ -60,15 +61,16 @@ module _ (words : List ℕ) (w start n : ℕ) (w2 : 2 ≤ w) (room : (w - 1) * (
       ∙ sym (ap (take n) (drop-map hashOf start (entries (w - 1) (hashCount w words) words)) ∙ take-map hashOf n (drop start (entries (w - 1) (hashCount w words) words)))
 
 -- the words of a row that is written whole
-pub row-laid : (rs : List ℕ) (i rate rmax : ℕ) → 4 + 4 * i + 4 ≤ length rs
-    → take (4 + 4 * i + 4) (entryPut (rowPut rs i rate rmax 1) i 0) ≡ take (4 + 4 * i) rs ++ rate ∷ rmax ∷ 1 ∷ 0 ∷ []
+pub row-laid : (rs : List ℕ) (i rate rmax : ℕ) → headWidth + rowWidth * (i + 1) ≤ length rs
+    → take (headWidth + rowWidth * (i + 1)) (entryPut (rowPut rs i rate rmax 1) i 0) ≡ take (headWidth + rowWidth * i) rs ++ rate ∷ rmax ∷ 1 ∷ 0 ∷ []
 unfolding rowPut entryPut
 row-laid rs i rate rmax h =
-    let a : 4 * i + 4 ≡ 4 + 4 * i = omega arith in
-    let b : 4 * i + 5 ≡ 4 + 4 * i + 1 = omega arith in
-    let c : 4 * i + 6 ≡ 4 + 4 * i + 2 = omega arith in
-    let d : 4 * i + 7 ≡ 4 + 4 * i + 3 = omega arith in
-    rw (a, b, c, d) (put-four rs (4 + 4 * i) rate rmax 1 0 (omega arith))
+    let z : headWidth + rowWidth * (i + 1) ≡ headWidth + rowWidth * i + 4 = omega arith in
+    let a : rowPlace i atRate ≡ headWidth + rowWidth * i = omega arith in
+    let b : rowPlace i atRmax ≡ headWidth + rowWidth * i + 1 = omega arith in
+    let c : rowPlace i atLive ≡ headWidth + rowWidth * i + 2 = omega arith in
+    let d : rowPlace i atVacant ≡ headWidth + rowWidth * i + 3 = omega arith in
+    rw (z, a, b, c, d) (put-four rs (headWidth + rowWidth * i) rate rmax 1 0 (omega arith))
 
 pub row-is : (words : List ℕ) (w start n rate start′ n′ rate′ rmax : ℕ) → rate′ ≡ canonical rate
     → rmax ≡ cond (hasRmax w) (largestAnchor (take n′ (drop start′ (hashesOf w words)))) 0 → start′ ≡ start → n′ ≡ n → rate′ ∷ rmax ∷ 1 ∷ 0 ∷ [] ≡ rowFor words w start n rate

@@ -9,6 +9,7 @@ ghost use Rattle.build_ranges.specs.Codes.{Fit, tabulate, ranksFrom};
 ghost use Rattle.build_sort.specs.Digits.{Readable};
 ghost use Rattle.model.specs.Fingerprints.{hashesOf};
 ghost use Rattle.model.specs.Rows.{hasRmax, largestAnchor};
+ghost use Rattle.model.specs.Words.{headWidth, rowWidth};
 ghost use Rattle.build_entries.specs.Laid.{entryOf, entryBy, SameFrom, laidEntries, StartsTo, rowFor};
 use postings::at;
 use rows::size;
@@ -131,8 +132,8 @@ fn part_max(hashes: &[u32], w: usize, start: usize, n: usize) -> u32
 
 // Row i, and no vacant entry in it.
 fn lay_row(refs: &mut [u32], i: usize, rate: u32, rmax: u32)
-    requires { ⌜ 4 + 4 * i + 4 ≤ length (now refs) ⌝ }
-    ensures { λ _. ⌜ take (4 + 4 * i + 4) (now (refs .exit)) ≡ take (4 + 4 * i) (now (refs .entry)) ++ rate ∷ rmax ∷ 1 ∷ 0 ∷ [] ⌝ }
+    requires { ⌜ headWidth + rowWidth * (i + 1) ≤ length (now refs) ⌝ }
+    ensures { λ _. ⌜ take (headWidth + rowWidth * (i + 1)) (now (refs .exit)) ≡ take (headWidth + rowWidth * i) (now (refs .entry)) ++ rate ∷ rmax ∷ 1 ∷ 0 ∷ [] ⌝ }
 {
     rows::put_row(refs, i, rate, rmax, 1);
     rows::put_entry(refs, i, 0);
@@ -140,8 +141,8 @@ fn lay_row(refs: &mut [u32], i: usize, rate: u32, rmax: u32)
 
 // The rows of all recordings.
 pub fn put_rows(refs: &mut [u32], hashes: &[u32], w: usize, lengths: &[u32], rates: &[u32])
-    requires { ⌜ (3 ≤ w) × (4 + 4 * length (now lengths) ≤ length (now refs)) × (length (now rates) ≡ length (now lengths)) × Fit (now hashes) (w - 1) (now lengths) ⌝ }
-    ensures { λ _. ⌜ take (4 + 4 * length (now (lengths .entry))) (now (refs .exit)) ≡ take 4 (now (refs .entry))
+    requires { ⌜ (3 ≤ w) × (headWidth + rowWidth * length (now lengths) ≤ length (now refs)) × (length (now rates) ≡ length (now lengths)) × Fit (now hashes) (w - 1) (now lengths) ⌝ }
+    ensures { λ _. ⌜ take (headWidth + rowWidth * length (now (lengths .entry))) (now (refs .exit)) ≡ take headWidth (now (refs .entry))
         ++ flat (tabulate (λ i. rowFor (now (hashes .entry)) w (sum (take i (now (lengths .entry)))) (getD (now (lengths .entry)) i 0) (getD (now (rates .entry)) i 0)) (length (now (lengths .entry)))) ⌝ }
 {
     let mut start = 0;

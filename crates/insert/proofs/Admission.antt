@@ -20,8 +20,8 @@ use Rattle.lists.proofs.Entries.{length-read, read-at}
 use Rattle.model.specs.Fingerprints.{fingerprintOf, hashesOf, hashCount, uneven, malformed, referenceMost}
 use Rattle.model.specs.Rows.{hasRmax, largestAnchor, canonical, rowOf}
 use Rattle.model.specs.Index.{Index, keyOf, posted, unskipped, isStopped, stoppedAfter, postingsAfter, newId, inserted}
-use Rattle.model.specs.Calls.{Sizes, stored, refused}
-use Rattle.model.specs.Words.{Words, sizesOf, sizesListed, between, slicesListed, write, postingWords, readRow, readVacant, readPosting, readIndex}
+use Rattle.model.specs.Calls.{Sizes, stored, refused, Answer}
+use Rattle.model.specs.Words.{Words, sizesOf, sizesListed, between, slicesListed, write, postingWords, readRow, readVacant, readPosting, readIndex, headWidth, rowWidth, atVacant}
 use Rattle.model.specs.Sound.{Sound}
 use Rattle.model.specs.Soundness.{rowWord, soundWords}
 use Rattle.model.proofs.Words.{written-postings}
@@ -50,11 +50,11 @@ module _ (w : ℕ) (m : Words) (w2 : 2 ≤ w) (l : slicesListed w m ≡ true) (s
 
   pub rows-many : length (readIndex w m .rows) ≡ getD (m .references) 0 0
   unfolding readIndex
-  rows-many = length-read readRow 4 (getD (m .references) 0 0) (drop 4 (m .references))
+  rows-many = length-read readRow rowWidth (getD (m .references) 0 0) (drop headWidth (m .references))
 
   pub vacant-many : length (readIndex w m .vacant) ≡ getD (m .references) 1 0
   unfolding readIndex
-  vacant-many = length-read readVacant 4 (getD (m .references) 1 0) (drop 4 (m .references))
+  vacant-many = length-read readVacant rowWidth (getD (m .references) 1 0) (drop headWidth (m .references))
 
   pub postings-many : length (readIndex w m .postings) ≡ getD (m .references) 2 0
   unfolding readIndex
@@ -68,9 +68,9 @@ module _ (w : ℕ) (m : Words) (w2 : 2 ≤ w) (l : slicesListed w m ≡ true) (s
   unfolding readIndex
   keys-read = map-map keyOf readPosting (entries w (getD (m .references) 2 0) (m .postings))
 
-  vacant-at : (i : ℕ) → i < getD (m .references) 1 0 → getD (readIndex w m .vacant) i 0 ≡ rowWord (m .references) i 3
+  vacant-at : (i : ℕ) → i < getD (m .references) 1 0 → getD (readIndex w m .vacant) i 0 ≡ rowWord (m .references) i atVacant
   unfolding readIndex
-  vacant-at i h = read-at readVacant 4 (getD (m .references) 1 0) (drop 4 (m .references)) 0 i h ∙ row-word (m .references) i 3 (omega arith)
+  vacant-at i h = read-at readVacant rowWidth (getD (m .references) 1 0) (drop headWidth (m .references)) 0 i h ∙ row-word (m .references) i atVacant (omega arith)
 
   words-read : map postingWords (readIndex w m .postings) ≡ entries w (getD (m .references) 2 0) (m .postings)
   words-read =
@@ -113,7 +113,7 @@ module _ (w : ℕ) (m : Words) (w2 : 2 ≤ w) (l : slicesListed w m ≡ true) (s
       (and-right (between 1 1048576 (z .P)) (between 1 65536 (z .K)) (and-right (between 1 4096 (z .R)) (between 1 1048576 (z .P) && between 1 65536 (z .K)) listed-sizes)))
 
   pub record Room : Type 0 where
-    pub references : length (m .references) ≡ 4 + 4 * sizesOf w m .R
+    pub references : length (m .references) ≡ headWidth + rowWidth * sizesOf w m .R
     pub rows : sizesOf w m .R ≤ 4096
     pub vacant-fit : getD (m .references) 1 0 ≤ getD (m .references) 0 0
     pub rows-fit : getD (m .references) 0 0 ≤ sizesOf w m .R
@@ -287,8 +287,8 @@ module _ (w : ℕ) (m : Words) (hashes : List ℕ) (D : Ready w m hashes) (limit
       row-left h =
           let v : getD rs 1 0 ≡ 0 = sym (vacant-many w m w2 l s) ∙ h in
           let f = rw (eq-eqb (getD rs 1 0) 0 v) at (D .row-left) in
-          let b : getD rs 0 0 ≤ (length rs - 4) / 4 = R .rows-fit in
-          omega (arith, rows-many w m w2 l s, eqb-false (getD rs 0 0) ((length rs - 4) / 4) f)
+          let b : getD rs 0 0 ≤ (length rs - headWidth) / rowWidth = R .rows-fit in
+          omega (arith, rows-many w m w2 l s, eqb-false (getD rs 0 0) ((length rs - headWidth) / rowWidth) f)
 
       references-left : recorded (m .references) (getD (m .references) 0 0) (getD (m .references) 1 0) (idIn (m .references)) (canonical rate) (cond (hasRmax w) (largestAnchor (hashesOf w hashes)) 0)
           (length (postingsIn w (m .references) (m .postings) hashes order count overs n)) (getD (m .references) 3 0 + n)
@@ -316,7 +316,7 @@ module _ (w : ℕ) (m : Words) (hashes : List ℕ) (D : Ready w m hashes) (limit
 
       -- where there is room
       module _ (fits : getD (m .references) 2 0 + count ≤ length (m .postings) / w) (keys-fit : getD (m .references) 3 0 + n ≤ length (m .stopped)) where
-        row-there : 4 * idIn (m .references) + 8 ≤ length (m .references)
+        row-there : headWidth + rowWidth * (idIn (m .references) + 1) ≤ length (m .references)
         row-there =
             let q : idIn rs < sizesOf w m .R = test (eqb (length (x .vacant)) 0)
             (λ e. let v = eqb-true (length (x .vacant)) 0 e in

@@ -13,7 +13,7 @@ use Rattle.sorting.specs.Sort.{sortZ}
 use Rattle.model.specs.Fingerprints.{hashesOf, hashCount}
 use Rattle.model.specs.Rows.{hasRmax, largestAnchor, canonical}
 use Rattle.model.specs.Calls.{stored, refused}
-use Rattle.model.specs.Words.{Words}
+use Rattle.model.specs.Words.{Words, headWidth}
 use Rattle.rows.specs.declared.Counts.{Counts}
 use Rattle.rows.specs.References.{CountsOf}
 use Rattle.soundness.specs.Scan.{words}
@@ -34,7 +34,7 @@ module _ (w : ℕ) (rs ps ss hashes : List ℕ) (limit rate : ℕ) (D : Ready w 
   R : Room w (words rs ps ss) (omega (arith, D .wide)) (D .is-listed) (D .is-sound)
   R = rooms w (words rs ps ss) (omega (arith, D .wide)) (D .is-listed) (D .is-sound)
 
-  pub head-in : 4 ≤ length rs
+  pub head-in : headWidth ≤ length rs
   head-in = omega (arith, R .references)
 
   few : hashCount w hashes ≤ 8192

@@ -15,7 +15,7 @@ use Rattle.lists.proofs.Keep.{length-flat, flat-append, flat-one, all-append}
 use Rattle.model.specs.Rows.{Row}
 use Rattle.model.specs.Index.{Index, newId, popped, putRow}
 use Rattle.model.specs.Calls.{Sizes}
-use Rattle.model.specs.Words.{rowWords, rowEntries, write}
+use Rattle.model.specs.Words.{rowWords, rowEntries, write, headWidth, rowWidth}
 use Rattle.model.proofs.Words.{wide-rows, length-rows, row-at}
 use Rattle.model.proofs.Written.{entry-word-is}
 use Rattle.rows.specs.References.{headerPut, rowPut, entryPut, headed}
@@ -23,12 +23,12 @@ use Rattle.rows.proofs.References.{header-headed, entry-headed, row-headed, row
 use Rattle.insert.specs.Writing.{recorded}
 
 pub references-headed : (w : ℕ) (z : Sizes) (x : Index) → length (x .rows) ≤ z .R
-    → write w z x .references ≡ headed (length (x .rows)) (length (x .vacant)) (length (x .postings)) (length (x .stopped)) (rowEntries (x .rows) (x .vacant)) (replicate (4 * (z .R - length (x .rows))) 0)
+    → write w z x .references ≡ headed (length (x .rows)) (length (x .vacant)) (length (x .postings)) (length (x .stopped)) (rowEntries (x .rows) (x .vacant)) (replicate (rowWidth * (z .R - length (x .rows))) 0)
 unfolding write padded headed
 references-headed w z x h =
-    let f : length (flat (rowEntries (x .rows) (x .vacant))) ≡ 4 * length (x .rows) =
-    length-flat 4 (rowEntries (x .rows) (x .vacant)) (wide-rows (x .rows) (x .vacant)) ∙ rw (length-rows (x .rows) (x .vacant)) in
-    let e : 4 + 4 * z .R - suc (suc (suc (suc (length (flat (rowEntries (x .rows) (x .vacant))))))) ≡ 4 * (z .R - length (x .rows)) = omega arith in
+    let f : length (flat (rowEntries (x .rows) (x .vacant))) ≡ rowWidth * length (x .rows) =
+    length-flat rowWidth (rowEntries (x .rows) (x .vacant)) (wide-rows (x .rows) (x .vacant)) ∙ rw (length-rows (x .rows) (x .vacant)) in
+    let e : headWidth + rowWidth * z .R - suc (suc (suc (suc (length (flat (rowEntries (x .rows) (x .vacant))))))) ≡ rowWidth * (z .R - length (x .rows)) = omega arith in
     rw e
 
 -- ---- the last vacant entry goes
@@ -57,13 +57,13 @@ none-left : (l : List ℕ) → length l ≡ 0 → l ≡ []
 none-left [] h = refl
 none-left (x ∷ l) h = absurd (omega arith)
 
-blank-row : (n v p k : ℕ) (es : List (List ℕ)) (a : ℕ) → headed n v p k es (replicate (4 * suc a) 0) ≡ headed n v p k (es ++ (0 ∷ 0 ∷ 0 ∷ 0 ∷ []) ∷ []) (replicate (4 * a) 0)
+blank-row : (n v p k : ℕ) (es : List (List ℕ)) (a : ℕ) → headed n v p k es (replicate (rowWidth * suc a) 0) ≡ headed n v p k (es ++ (0 ∷ 0 ∷ 0 ∷ 0 ∷ []) ∷ []) (replicate (rowWidth * a) 0)
 unfolding headed
 blank-row n v p k es a =
-    let e : 4 * suc a ≡ suc (suc (suc (suc (4 * a)))) = omega arith in
+    let e : rowWidth * suc a ≡ suc (suc (suc (suc (rowWidth * a)))) = omega arith in
     let blank : List ℕ = 0 ∷ 0 ∷ 0 ∷ 0 ∷ [] in
     let f : flat (es ++ blank ∷ []) ≡ flat es ++ blank = flat-append es (blank ∷ []) ∙ ap (λ (l : List ℕ). flat es ++ l) (flat-one blank) in
-    ap (λ (l : List ℕ). n ∷ v ∷ p ∷ k ∷ l) (rw (e, f) (sym (append-assoc (flat es) blank (replicate (4 * a) 0))))
+    ap (λ (l : List ℕ). n ∷ v ∷ p ∷ k ∷ l) (rw (e, f) (sym (append-assoc (flat es) blank (replicate (rowWidth * a) 0))))
 
 -- ---- an index with one recording more
 
@@ -76,10 +76,10 @@ module _ (rs : List (Option Row)) (vs : List ℕ) (r : Row) (R p k p′ k′ : �
 
   -- at a vacant id
   reused : (id : ℕ) → 0 < length vs → id < length rs
-      → headerPut (rowPut (entryPut (headed (length rs) (length vs) p k (rowEntries rs vs) (replicate (4 * (R - length rs)) 0)) (length vs - 1) 0) id (r .rate) (r .rmax) 1) (length rs) (length vs - 1) p′ k′
-      ≡ headed (length rs) (length vs - 1) p′ k′ (rowEntries (set rs id (some r)) (popped vs)) (replicate (4 * (R - length rs)) 0)
+      → headerPut (rowPut (entryPut (headed (length rs) (length vs) p k (rowEntries rs vs) (replicate (rowWidth * (R - length rs)) 0)) (length vs - 1) 0) id (r .rate) (r .rmax) 1) (length rs) (length vs - 1) p′ k′
+      ≡ headed (length rs) (length vs - 1) p′ k′ (rowEntries (set rs id (some r)) (popped vs)) (replicate (rowWidth * (R - length rs)) 0)
   reused id some-left inside =
-      let rest : List ℕ = replicate (4 * (R - n)) 0 in
+      let rest : List ℕ = replicate (rowWidth * (R - n)) 0 in
       let es = rowEntries rs vs in
       let es1 = rowEntries rs (popped vs) in
       let l1 : length es1 ≡ n = length-rows rs (popped vs) in
@@ -95,17 +95,17 @@ module _ (rs : List (Option Row)) (vs : List ℕ) (r : Row) (R p k p′ k′ : �
 
   -- or at the next one
   appended : length vs ≡ 0 → length rs < R
-      → headerPut (rowPut (headed (length rs) (length vs) p k (rowEntries rs vs) (replicate (4 * (R - length rs)) 0)) (length rs) (r .rate) (r .rmax) 1) (length rs + 1) 0 p′ k′
-      ≡ headed (length rs + 1) 0 p′ k′ (rowEntries (rs ++ some r ∷ []) (popped vs)) (replicate (4 * (R - (length rs + 1))) 0)
+      → headerPut (rowPut (headed (length rs) (length vs) p k (rowEntries rs vs) (replicate (rowWidth * (R - length rs)) 0)) (length rs) (r .rate) (r .rmax) 1) (length rs + 1) 0 p′ k′
+      ≡ headed (length rs + 1) 0 p′ k′ (rowEntries (rs ++ some r ∷ []) (popped vs)) (replicate (rowWidth * (R - (length rs + 1))) 0)
   appended none-vacant room =
       let e = none-left vs none-vacant in
       let a : R - n ≡ suc (R - (n + 1)) = omega arith in
       let es = rowEntries rs [] in
       let blank : List ℕ = 0 ∷ 0 ∷ 0 ∷ 0 ∷ [] in
-      let rest : List ℕ = replicate (4 * (R - (n + 1))) 0 in
+      let rest : List ℕ = replicate (rowWidth * (R - (n + 1))) 0 in
       let l : length es ≡ n = length-rows rs [] in
       let long : length (es ++ blank ∷ []) ≡ n + 1 = rw (length-append, l) (omega arith) in
-      let wide : Wide 4 (es ++ blank ∷ []) = all-append (λ (e : List ℕ). length e ≡ 4) es (blank ∷ []) (wide-rows rs []) (refl, tt) in
+      let wide : Wide rowWidth (es ++ blank ∷ []) = all-append (λ (e : List ℕ). length e ≡ rowWidth) es (blank ∷ []) (wide-rows rs []) (refl, tt) in
       rw (e, a) (
       ap (λ (m : List ℕ). headerPut (rowPut m n (r .rate) (r .rmax) 1) (n + 1) 0 p′ k′) (blank-row n 0 p k es (R - (n + 1)))
       ∙ ap (λ (m : List ℕ). headerPut m (n + 1) 0 p′ k′)

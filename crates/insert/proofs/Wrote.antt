@@ -8,13 +8,14 @@ use lib.IntN.{ℤ}
 use lib.ListN.{length, take}
 use lib.Dec.{eqb}
 use Rattle.model.specs.Soundness.{rowWord}
+use Rattle.model.specs.Words.{atVacant}
 use Rattle.rows.specs.declared.Counts.{Counts}
 use Rattle.rows.specs.References.{CountsOf}
 use Rattle.insert_merge.specs.Order.{placesIn}
 use Rattle.insert.specs.Writing.{Placing, placedEntries, Stopping, recorded, Recording, idIn, postingsIn, Writable}
 use Rattle.insert.proofs.Placed.{placed-few}
 
-pub id-from : (rs : List ℕ) (h : Counts) (r : ℕ) → CountsOf rs h → r ≡ cond (eqb (h .vacant) 0) (h .rows) (rowWord rs (h .vacant - 1) 3) → r ≡ idIn rs
+pub id-from : (rs : List ℕ) (h : Counts) (r : ℕ) → CountsOf rs h → r ≡ cond (eqb (h .vacant) 0) (h .rows) (rowWord rs (h .vacant - 1) atVacant) → r ≡ idIn rs
 id-from rs h r c e = rw (c .vacant, c .rows) at e
 
 pub recorded-all : (rs : List ℕ) (n n′ v v′ id id′ rate rate′ rmax rmax′ p p′ k k′ : ℕ) → n ≡ n′ → v ≡ v′ → id ≡ id′ → rate ≡ rate′ → rmax ≡ rmax′ → p ≡ p′ → k ≡ k′

@@ -7,7 +7,7 @@ use lib.ListN.{length, getD}
 use lib.Dec.{eqb}
 use Rattle.model.specs.Fingerprints.{malformed, referenceMost}
 use Rattle.model.specs.Calls.{Answer, stored, refused}
-use Rattle.model.specs.Words.{Words, slicesListed}
+use Rattle.model.specs.Words.{Words, slicesListed, headWidth, rowWidth}
 use Rattle.model.specs.Soundness.{soundWords}
 use Rattle.insert.specs.declared.Insertion.{Insertion}
 use Rattle.insert.specs.declared.Insertion.the-variants.{Refused, Stored}
@@ -19,7 +19,7 @@ insertionAnswer (Stored id) = stored id
 
 -- refusal 5: "v = 0 and n = R"
 unfoldable pub noRow : List ℕ → Bool
-noRow rs = eqb (getD rs 1 0) 0 && eqb (getD rs 0 0) ((length rs - 4) / 4)
+noRow rs = eqb (getD rs 1 0) 0 && eqb (getD rs 0 0) ((length rs - headWidth) / rowWidth)
 
 -- refusals 1, 2, 3 and 5 do not apply
 pub record Ready (w : ℕ) (m : Words) (hashes : List ℕ) : Type 0 where

@@ -10,6 +10,7 @@ use Rattle.lists.specs.Keys.{Sorted, Ascending, placeAll}
 use Rattle.lists.specs.Entries.{keyOf, keyAt, keysAscend, zeroFrom}
 use Rattle.postings.specs.Retain.{staying}
 use Rattle.model.specs.Soundness.{rowWord}
+use Rattle.model.specs.Words.{headWidth, rowWidth, atVacant}
 use Rattle.rows.specs.References.{headerPut, rowPut, entryPut}
 use Rattle.insert_merge.specs.Order.{placesIn, Places, entriesOf, without}
 
@@ -47,15 +48,15 @@ recorded rs n v id rate rmax p k =
 
 pub record Recording (rs : List ℕ) (n v id p k : ℕ) : Type 0 where
   pub vacant : v ≤ n
-  pub rows : 4 + 4 * n ≤ length rs
-  pub row : 4 * id + 8 ≤ length rs
+  pub rows : headWidth + rowWidth * n ≤ length rs
+  pub row : headWidth + rowWidth * (id + 1) ≤ length rs
   pub small : n < 2 ^ 31
   pub postings : p < 2 ^ 32
   pub stopped : k < 2 ^ 32
 
 -- "A new id is the last one vacated, else n", from the words
 abbrev pub idIn : List ℕ → ℕ
-idIn rs = cond (eqb (getD rs 1 0) 0) (getD rs 0 0) (rowWord rs (getD rs 1 0 - 1) 3)
+idIn rs = cond (eqb (getD rs 1 0) 0) (getD rs 0 0) (rowWord rs (getD rs 1 0 - 1) atVacant)
 
 -- the entries that are left
 abbrev pub postingsIn : ℕ → List ℕ → List ℕ → List ℕ → List ℤ → ℕ → List ℕ → ℕ → List (List ℕ)
@@ -66,8 +67,8 @@ pub record Writable (w : ℕ) (rs ps ss words : List ℕ) (order : List ℤ) (m 
   pub placing : Placing w (getD rs 2 0) ps words order m overs n
   pub stopping : Stopping ss (getD rs 3 0) overs n
   pub vacant : getD rs 1 0 ≤ getD rs 0 0
-  pub rows : 4 + 4 * getD rs 0 0 ≤ length rs
-  pub row : 4 * idIn rs + 8 ≤ length rs
-  pub long : length rs ≤ 16388
+  pub rows : headWidth + rowWidth * getD rs 0 0 ≤ length rs
+  pub row : headWidth + rowWidth * (idIn rs + 1) ≤ length rs
+  pub long : length rs ≤ headWidth + rowWidth * 4096
   pub postings : getD rs 2 0 + m < 2 ^ 32
   pub stopped : getD rs 3 0 + n < 2 ^ 32

@@ -11,6 +11,7 @@ ghost use Rattle.model.specs.Fingerprints.{hashesOf};
 ghost use Rattle.model.specs.Rows.{hasRmax, largestAnchor, canonical};
 ghost use Rattle.model.specs.Soundness.{rowWord};
 ghost use Rattle.model.specs.Run.{runInsert};
+ghost use Rattle.model.specs.Words.{headWidth, rowWidth, atVacant};
 ghost use Rattle.insert_merge.specs.Order.{placesIn};
 ghost use Rattle.soundness.specs.Scan.{lent};
 ghost use Rattle.insert.specs.Writing.{Placing, placedEntries, Stopping, recorded, Recording, idIn, postingsIn, Writable};
@@ -58,13 +59,13 @@ fn stop_keys(stops: &mut [u32], k: usize, overs: &[u32], n: usize)
 
 // The id of a new recording, where n rows and v vacant entries are in use.
 fn new_id(refs: &[u32], n: usize, v: usize) -> usize
-    requires { ⌜ (v ≤ n) × (4 + 4 * n ≤ length (now refs)) ⌝ }
-    ensures { λ r. ⌜ r ≡ cond (eqb v 0) n (rowWord (now (refs .entry)) (v - 1) 3) ⌝ }
+    requires { ⌜ (v ≤ n) × (headWidth + rowWidth * n ≤ length (now refs)) ⌝ }
+    ensures { λ r. ⌜ r ≡ cond (eqb v 0) n (rowWord (now (refs .entry)) (v - 1) atVacant) ⌝ }
 {
     if v == 0 {
         return n;
     }
-    size(rows::row_word(refs, v - 1, 3))
+    size(rows::row_word(refs, v - 1, rows::AT_VACANT))
 }
 
 // Recording id is written into the references, where n rows and v vacant entries are in use; p postings and k stopped keys are left.
@@ -133,14 +134,14 @@ fn write_recording(
 
 // Whether there is neither a vacant id nor a row that is not in use.
 fn is_full(refs: &[u32]) -> bool
-    requires { ⌜ 4 ≤ length (now refs) ⌝ }
+    requires { ⌜ headWidth ≤ length (now refs) ⌝ }
     ensures { λ r. ⌜ r ≡ noRow (now (refs .entry)) ⌝ }
 {
     let h = rows::header(refs);
     if h.vacant != 0 {
         return false;
     }
-    h.rows == (refs.len() - 4) / 4
+    h.rows == (refs.len() - rows::HEAD_WIDTH) / rows::ROW_WIDTH
 }
 
 // An insertion into a sound store that has a row left, of a fingerprint that is well formed.

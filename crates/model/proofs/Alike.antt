@@ -18,7 +18,7 @@ use Rattle.model.specs.Fingerprints.{Hash, Fingerprint, hashOf, hashCoun
 use Rattle.model.specs.Index.{Index, empty, inserted, builtFrom}
 use Rattle.model.specs.Query.{Scheme}
 use Rattle.model.specs.Calls.{Sizes, Store, holds, content, insert, refusal, buildTests, insertTests, buildStep, insertStep}
-use Rattle.model.specs.Words.{Words, sizesOf, slicesListed, rowEntries, write}
+use Rattle.model.specs.Words.{Words, sizesOf, slicesListed, rowEntries, write, headWidth, rowWidth}
 use Rattle.model.specs.Sound.{Sound}
 use Rattle.model.specs.Run.{storeOf, laidOut, runBuild, run}
 use Rattle.model.specs.History.{leaves, answers}
@@ -119,8 +119,8 @@ module _ (S : Scheme) (w2 : 2 ≤ S .width) (limit : ℕ) where
   unfolding write rowEntries flat
   blank-is m l = λ i. record { references = references i; postings = postings i; stopped = stopped i }
     where
-      references : padded (4 + 4 * sizesOf w m .R) (0 ∷ 0 ∷ 0 ∷ 0 ∷ []) ≡ replicate (length (m .references)) 0
-      references = padded-zeros (4 + 4 * sizesOf w m .R) 4 (omega arith) ∙ ap (λ (n : ℕ). replicate n 0) (sym (references-long w m w2 l))
+      references : padded (headWidth + rowWidth * sizesOf w m .R) (0 ∷ 0 ∷ 0 ∷ 0 ∷ []) ≡ replicate (length (m .references)) 0
+      references = padded-zeros (headWidth + rowWidth * sizesOf w m .R) headWidth (omega arith) ∙ ap (λ (n : ℕ). replicate n 0) (sym (references-long w m w2 l))
 
       postings : padded (w * sizesOf w m .P) [] ≡ replicate (length (m .postings)) 0
       postings = padded-zeros (w * sizesOf w m .P) 0 (omega arith) ∙ ap (λ (n : ℕ). replicate n 0) (sym (postings-long w m w2 l))

@@ -91,7 +91,7 @@ module _ (S : Scheme) (z : Sizes) (w2 : 2 ≤ S .width) where
   unfolding queryTests
   tests-again s id q many h =
       let t = none-applies (queryTests S s q) h in
-      not-refused (queryTests S (holds (erased id (content s))) q) (or-false-right (isUnlisted s) (not (scratchListed S q)) (t 1), (refl, (t 3, (t 4, (many (t 8), tt)))))
+      not-refused (queryTests S (holds (erased id (content s))) q) (or-false-right (isUnlisted s) (not (scratchListed (S .voteWords) (q .scratch))) (t 1), (refl, (t 3, (t 4, (many (t 8), tt)))))
 
   after-remove : (s : Store) (c : Catalog) → Inv w z s c → (id : ℕ) → isLive (getD (content s .rows) id none) ≡ true
       → AfterRemove S (λ q. queryStep S s q .0) (λ q. queryStep S (holds (erased id (content s))) q .0) id

@@ -24,7 +24,7 @@ use Rattle.lists.proofs.Entries.{all-entries, entries-at, entry-key, length-ent
 use Rattle.model.specs.Rows.{Row, hasRmax, noRate, isCanonical, rowSound, hashSound}
 use Rattle.model.specs.Index.{Posting, keyOf, isLive}
 use Rattle.model.specs.Calls.{Sizes}
-use Rattle.model.specs.Words.{Words, rowWords, rowEntries, postingWords, write, readRow, readVacant, readPosting, readIndex}
+use Rattle.model.specs.Words.{Words, rowWords, rowEntries, postingWords, write, readRow, readVacant, readPosting, readIndex, headWidth, rowWidth, atRate, atRmax, atLive, atVacant}
 use Rattle.model.specs.Sound.{isDead, goodRow, goodHash, Sound}
 use Rattle.model.specs.Soundness.{rowWord, postingWord, deadRow, liveId}
 use Rattle.model.proofs.Facts.{Facts, is-dead, not-dead, id-live, id-out, id-dead}
@@ -35,7 +35,7 @@ use Rattle.model.proofs.Written.{row-word, id-word, anchor-word}
 
 -- what is asked of a row's words, the vacant entry aside
 pub record FineRow (e : List ℕ) : Type 0 where
-  pub long : length e ≡ 4
+  pub long : length e ≡ rowWidth
   pub live : getD e 2 0 ≤ 1
   pub rate : getD e 2 0 ≡ 0 → getD e 0 0 ≡ noRate
   pub rmax : getD e 2 0 ≡ 0 → getD e 1 0 ≡ 0
@@ -72,7 +72,7 @@ posting-write (a ∷ b ∷ e) h = refl
 
 -- ---- the whole
 
-module _ (w : ℕ) (z : Sizes) (m : Words) (w2 : 2 ≤ w) (refs-long : length (m .references) ≡ 4 + 4 * z .R) (posts-long : length (m .postings) ≡ w * z .P) (stops-long : length (m .stopped) ≡ z .K) where
+module _ (w : ℕ) (z : Sizes) (m : Words) (w2 : 2 ≤ w) (refs-long : length (m .references) ≡ headWidth + rowWidth * z .R) (posts-long : length (m .postings) ≡ w * z .P) (stops-long : length (m .stopped) ≡ z .K) where
   abbrev rs : List ℕ
   rs = m .references
 
@@ -96,10 +96,10 @@ module _ (w : ℕ) (z : Sizes) (m : Words) (w2 : 2 ≤ w) (refs-long : length (m
 
   module _ (F : Facts w z rs ps ss n v p k) where
     abbrev rows : List (Option Row)
-    rows = map readRow (entries 4 n (drop 4 rs))
+    rows = map readRow (entries rowWidth n (drop headWidth rs))
 
     abbrev vacant : List ℕ
-    vacant = map readVacant (entries 4 v (drop 4 rs))
+    vacant = map readVacant (entries rowWidth v (drop headWidth rs))
 
     abbrev postings : List Posting
     postings = map readPosting (entries w p ps)
@@ -108,10 +108,10 @@ module _ (w : ℕ) (z : Sizes) (m : Words) (w2 : 2 ≤ w) (refs-long : length (m
     stopped = take k ss
 
     pub rows-long : length rows ≡ n
-    rows-long = length-read readRow 4 n (drop 4 rs)
+    rows-long = length-read readRow rowWidth n (drop headWidth rs)
 
     pub vacant-long : length vacant ≡ v
-    vacant-long = length-read readVacant 4 v (drop 4 rs)
+    vacant-long = length-read readVacant rowWidth v (drop headWidth rs)
 
     pub postings-long : length postings ≡ p
     postings-long = length-read readPosting w p ps
@@ -119,7 +119,7 @@ module _ (w : ℕ) (z : Sizes) (m : Words) (w2 : 2 ≤ w) (refs-long : length (m
     pub stopped-long : length stopped ≡ k
     stopped-long = length-take-le k ss (omega (arith, F .stopped-fit))
 
-    rows-there : 4 * n ≤ length (drop 4 rs)
+    rows-there : rowWidth * n ≤ length (drop headWidth rs)
     rows-there = rw length-drop (omega (arith, F .rows-fit))
 
     postings-there : w * p ≤ length ps
@@ -127,28 +127,28 @@ module _ (w : ℕ) (z : Sizes) (m : Words) (w2 : 2 ≤ w) (refs-long : length (m
 
     -- ---- rows
 
-    pub row-read : (j : ℕ) → j < n → getD rows j none ≡ readRow (entryAt 4 j (drop 4 rs))
-    row-read j h = read-at readRow 4 n (drop 4 rs) none j h
+    pub row-read : (j : ℕ) → j < n → getD rows j none ≡ readRow (entryAt rowWidth j (drop headWidth rs))
+    row-read j h = read-at readRow rowWidth n (drop headWidth rs) none j h
 
-    pub vacant-read : (i : ℕ) → i < v → getD vacant i 0 ≡ rowWord rs i 3
-    vacant-read i h = read-at readVacant 4 v (drop 4 rs) 0 i h ∙ row-word rs i 3 (omega arith)
+    pub vacant-read : (i : ℕ) → i < v → getD vacant i 0 ≡ rowWord rs i atVacant
+    vacant-read i h = read-at readVacant rowWidth v (drop headWidth rs) 0 i h ∙ row-word rs i atVacant (omega arith)
 
-    pub live-row : (j : ℕ) → j < n → rowWord rs j 2 ≡ 1 → getD rows j none ≡ some (record { rate = rowWord rs j 0; rmax = rowWord rs j 1 })
-    live-row j h e = row-read j h ∙ rw (row-word rs j 2 (omega arith), e, row-word rs j 0 (omega arith), row-word rs j 1 (omega arith))
+    pub live-row : (j : ℕ) → j < n → rowWord rs j atLive ≡ 1 → getD rows j none ≡ some (record { rate = rowWord rs j atRate; rmax = rowWord rs j atRmax })
+    live-row j h e = row-read j h ∙ rw (row-word rs j atLive (omega arith), e, row-word rs j atRate (omega arith), row-word rs j atRmax (omega arith))
 
-    pub dead-row : (j : ℕ) → j < n → rowWord rs j 2 ≡ 0 → getD rows j none ≡ none
-    dead-row j h e = row-read j h ∙ rw (row-word rs j 2 (omega arith), e)
+    pub dead-row : (j : ℕ) → j < n → rowWord rs j atLive ≡ 0 → getD rows j none ≡ none
+    dead-row j h e = row-read j h ∙ rw (row-word rs j atLive (omega arith), e)
 
     -- a row is dead or live
-    either-row {ℓ} : {C : Type ℓ} (j : ℕ) → j < n → (rowWord rs j 2 ≡ 0 → C) → (rowWord rs j 2 ≡ 1 → C) → C
-    either-row j h f g = bit (rowWord rs j 2) (F .live j h) f g
+    either-row {ℓ} : {C : Type ℓ} (j : ℕ) → j < n → (rowWord rs j atLive ≡ 0 → C) → (rowWord rs j atLive ≡ 1 → C) → C
+    either-row j h f g = bit (rowWord rs j atLive) (F .live j h) f g
 
     row-good : (j : ℕ) → j < n → goodRow w (getD rows j none) ≡ true
     unfolding rowSound
     row-good j h = either-row j h
         (λ e. rw (dead-row j h e))
-        (λ e. rw (live-row j h e) (both-true (isCanonical (rowWord rs j 0)) _ (F .rate j h (λ d. omega arith))
-        (test (hasRmax w) (λ d. or-left (hasRmax w) _ d) (λ d. or-right (hasRmax w) _ (eq-eqb (rowWord rs j 1) 0 (F .rmax j h d))))))
+        (λ e. rw (live-row j h e) (both-true (isCanonical (rowWord rs j atRate)) _ (F .rate j h (λ d. omega arith))
+        (test (hasRmax w) (λ d. or-left (hasRmax w) _ d) (λ d. or-right (hasRmax w) _ (eq-eqb (rowWord rs j atRmax) 0 (F .rmax j h d))))))
 
     dead-same : (j : ℕ) → j < n → isDead (getD rows j none) ≡ deadRow rs j
     dead-same j h = either-row j h
@@ -163,7 +163,7 @@ module _ (w : ℕ) (z : Sizes) (m : Words) (w2 : 2 ≤ w) (refs-long : length (m
         (λ e. rw (live-row id lt e, id-live rs n id lt e)))
         (le-or-lt n id)
 
-    entry-once : (i j : ℕ) → i < v → j < v → rowWord rs i 3 ≡ rowWord rs j 3 → i ≡ j
+    entry-once : (i j : ℕ) → i < v → j < v → rowWord rs i atVacant ≡ rowWord rs j atVacant → i ≡ j
     entry-once i j h l e = ⊎-elim
         (λ (a : i ≤ j). ⊎-elim (λ (b : j ≤ i). omega arith) (λ (b : i < j). absurd (F .vacant-once j i l b e)) (le-or-lt j i))
         (λ (a : j < i). absurd (F .vacant-once i j h a (sym e)))
@@ -178,7 +178,7 @@ module _ (w : ℕ) (z : Sizes) (m : Words) (w2 : 2 ≤ w) (refs-long : length (m
     unfolding hashSound
     posting-good i h =
         rw (id-word w ps i w2, live-row (postingWord ps w i 1) (F .id-within i h) (F .id-live i h)) (test (hasRmax w)
-        (λ e. or-right (not (hasRmax w)) _ (rw (anchor-read i e) (le-leb (postingWord ps w i 2) (rowWord rs (postingWord ps w i 1) 1) (F .anchors i h e))))
+        (λ e. or-right (not (hasRmax w)) _ (rw (anchor-read i e) (le-leb (postingWord ps w i 2) (rowWord rs (postingWord ps w i 1) atRmax) (F .anchors i h e))))
         (λ e. or-left (not (hasRmax w)) _ (ap not e)))
 
     pub stopped-read : (j : ℕ) → j < k → getD stopped j 0 ≡ getD ss j 0
@@ -205,7 +205,7 @@ module _ (w : ℕ) (z : Sizes) (m : Words) (w2 : 2 ≤ w) (refs-long : length (m
           ∙ ap (λ (l : ℕ). count l (λ j. isDead (getD rows j none))) rows-long
           ∙ count-same (λ j. isDead (getD rows j none)) (deadRow rs) n dead-same ∙ F .deads ∙ sym vacant-long;
       within = λ i lt. let l : i < v = omega (arith, vacant-long) in rw (vacant-read i l, rows-long) (F .vacant-within i l);
-      dead = λ i lt. let l : i < v = omega (arith, vacant-long) in rw (vacant-read i l) (dead-row (rowWord rs i 3) (F .vacant-within i l) (F .vacant-dead i l));
+      dead = λ i lt. let l : i < v = omega (arith, vacant-long) in rw (vacant-read i l) (dead-row (rowWord rs i atVacant) (F .vacant-within i l) (F .vacant-dead i l));
       once = λ i j lt lt′ e.
           let l : i < v = omega (arith, vacant-long) in
           let l′ : j < v = omega (arith, vacant-long) in
@@ -222,23 +222,23 @@ module _ (w : ℕ) (z : Sizes) (m : Words) (w2 : 2 ≤ w) (refs-long : length (m
 
     -- ---- laid out again
 
-    rows-fine : All FineRow (entries 4 n (drop 4 rs))
-    rows-fine = all-entries FineRow 4 n (drop 4 rs) fine
+    rows-fine : All FineRow (entries rowWidth n (drop headWidth rs))
+    rows-fine = all-entries FineRow rowWidth n (drop headWidth rs) fine
       where
-        fine : (j : ℕ) → j < n → FineRow (entryAt 4 j (drop 4 rs))
+        fine : (j : ℕ) → j < n → FineRow (entryAt rowWidth j (drop headWidth rs))
         fine j l = record {
-          long = length-take-le 4 (drop (4 * j) (drop 4 rs)) (simp length-drop (omega (arith, F .rows-fit)));
-          live = rw (row-word rs j 2 (omega arith)) (F .live j l);
-          rate = λ e. row-word rs j 0 (omega arith) ∙ F .dead-rate j l (sym (row-word rs j 2 (omega arith)) ∙ e);
-          rmax = λ e. row-word rs j 1 (omega arith) ∙ F .dead-rmax j l (sym (row-word rs j 2 (omega arith)) ∙ e);
+          long = length-take-le rowWidth (drop (rowWidth * j) (drop headWidth rs)) (simp length-drop (omega (arith, F .rows-fit)));
+          live = rw (row-word rs j atLive (omega arith)) (F .live j l);
+          rate = λ e. row-word rs j atRate (omega arith) ∙ F .dead-rate j l (sym (row-word rs j atLive (omega arith)) ∙ e);
+          rmax = λ e. row-word rs j atRmax (omega arith) ∙ F .dead-rmax j l (sym (row-word rs j atLive (omega arith)) ∙ e);
         }
 
-    rows-again : rowEntries rows vacant ≡ entries 4 n (drop 4 rs)
+    rows-again : rowEntries rows vacant ≡ entries rowWidth n (drop headWidth rs)
     rows-again =
-        ap (λ (l : List (List ℕ)). rowEntries rows (map readVacant l)) (entries-fewer 4 v n (drop 4 rs) (F .vacant-fit))
-        ∙ rows-write v (entries 4 n (drop 4 rs)) rows-fine (λ i h lt.
-        let l : i < n = omega (arith, length-entries 4 n (drop 4 rs)) in
-        ap readVacant (entries-at 4 n (drop 4 rs) i l) ∙ row-word rs i 3 (omega arith) ∙ F .entries-unused i h l)
+        ap (λ (l : List (List ℕ)). rowEntries rows (map readVacant l)) (entries-fewer rowWidth v n (drop headWidth rs) (F .vacant-fit))
+        ∙ rows-write v (entries rowWidth n (drop headWidth rs)) rows-fine (λ i h lt.
+        let l : i < n = omega (arith, length-entries rowWidth n (drop headWidth rs)) in
+        ap readVacant (entries-at rowWidth n (drop headWidth rs) i l) ∙ row-word rs i atVacant (omega arith) ∙ F .entries-unused i h l)
 
     postings-again : map postingWords postings ≡ entries w p ps
     postings-again =
@@ -251,11 +251,11 @@ module _ (w : ℕ) (z : Sizes) (m : Words) (w2 : 2 ≤ w) (refs-long : length (m
     unfolding write readIndex
     write-read = λ i. record { references = references i; postings = posts i; stopped = stops i }
       where
-        words : length rows ∷ length vacant ∷ length postings ∷ length stopped ∷ flat (rowEntries rows vacant) ≡ take (4 + 4 * n) rs
-        words = rw (rows-long, vacant-long, postings-long, stopped-long, rows-again, flat-entries 4 n (drop 4 rs)) (front rs (4 * n) (omega arith))
+        words : length rows ∷ length vacant ∷ length postings ∷ length stopped ∷ flat (rowEntries rows vacant) ≡ take (headWidth + rowWidth * n) rs
+        words = rw (rows-long, vacant-long, postings-long, stopped-long, rows-again, flat-entries rowWidth n (drop headWidth rs)) (front rs (rowWidth * n) (omega arith))
 
-        references : padded (4 + 4 * z .R) (length rows ∷ length vacant ∷ length postings ∷ length stopped ∷ flat (rowEntries rows vacant)) ≡ rs
-        references = rw (words, ← refs-long) (padded-take rs (4 + 4 * n) (omega (arith, F .rows-fit)) (F .rows-unused))
+        references : padded (headWidth + rowWidth * z .R) (length rows ∷ length vacant ∷ length postings ∷ length stopped ∷ flat (rowEntries rows vacant)) ≡ rs
+        references = rw (words, ← refs-long) (padded-take rs (headWidth + rowWidth * n) (omega (arith, F .rows-fit)) (F .rows-unused))
 
         posts : padded (w * z .P) (flat (map postingWords postings)) ≡ ps
         posts = rw (postings-again, flat-entries w p ps, ← posts-long) (padded-take ps (w * p) postings-there (F .postings-unused))

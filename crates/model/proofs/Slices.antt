@@ -18,48 +18,48 @@ use Rattle.lists.proofs.Place.{under-map, placeAll-map}
 use Rattle.lists.proofs.Entries.{length-entries, entries-at, flat-entries, padded-take}
 use Rattle.model.specs.Index.{Posting, Index, keyOf, unskipped, isStopped, exceeds, placed, postingsAfter, withoutId}
 use Rattle.model.specs.Calls.{Sizes}
-use Rattle.model.specs.Words.{rowWords, rowEntries, postingWords, write}
+use Rattle.model.specs.Words.{rowWords, rowEntries, postingWords, write, headWidth, rowWidth}
 use Rattle.model.specs.Soundness.{rowWord}
 use Rattle.model.proofs.Words.{four, length-rows, row-at}
 use Rattle.model.proofs.Written.{row-word}
 
 -- the first four words and what follows them
-pub front : (l : List ℕ) (a : ℕ) → 4 ≤ length l → getD l 0 0 ∷ getD l 1 0 ∷ getD l 2 0 ∷ getD l 3 0 ∷ take a (drop 4 l) ≡ take (4 + a) l
+pub front : (l : List ℕ) (a : ℕ) → headWidth ≤ length l → getD l 0 0 ∷ getD l 1 0 ∷ getD l 2 0 ∷ getD l 3 0 ∷ take a (drop headWidth l) ≡ take (headWidth + a) l
 front [] a h = absurd (omega arith)
 front (x0 ∷ []) a h = absurd (omega arith)
 front (x0 ∷ x1 ∷ []) a h = absurd (omega arith)
 front (x0 ∷ x1 ∷ x2 ∷ []) a h = absurd (omega arith)
-front (x0 ∷ x1 ∷ x2 ∷ x3 ∷ l) a h = let e : 4 + a ≡ suc (suc (suc (suc a))) = omega arith in rw e
+front (x0 ∷ x1 ∷ x2 ∷ x3 ∷ l) a h = let e : headWidth + a ≡ suc (suc (suc (suc a))) = omega arith in rw e
 
 module _ (w : ℕ) (z : Sizes) (x : Index) where
   -- what the references have to say
   pub record References (rs : List ℕ) : Type 0 where
-    pub long : length rs ≡ 4 + 4 * z .R
+    pub long : length rs ≡ headWidth + rowWidth * z .R
     pub fit : length (x .rows) ≤ z .R
     pub rows : getD rs 0 0 ≡ length (x .rows)
     pub vacant : getD rs 1 0 ≡ length (x .vacant)
     pub postings : getD rs 2 0 ≡ length (x .postings)
     pub stopped : getD rs 3 0 ≡ length (x .stopped)
-    pub row : (j f : ℕ) → j < length (x .rows) → f < 4 → rowWord rs j f ≡ getD (rowWords (getD (x .rows) j none) (getD (x .vacant) j 0)) f 0
-    pub unused : zeroFrom rs (4 + 4 * length (x .rows)) ≡ true
+    pub row : (j f : ℕ) → j < length (x .rows) → f < rowWidth → rowWord rs j f ≡ getD (rowWords (getD (x .rows) j none) (getD (x .vacant) j 0)) f 0
+    pub unused : zeroFrom rs (headWidth + rowWidth * length (x .rows)) ≡ true
 
   pub references-are : (rs : List ℕ) → References rs → rs ≡ write w z x .references
   unfolding write
   references-are rs H =
-      sym (padded-take rs (4 + 4 * length (x .rows)) (omega (arith, H .long, H .fit)) (H .unused))
-      ∙ rw (H .long, ← front rs (4 * length (x .rows)) (omega (arith, H .long)), ← flat-entries 4 (length (x .rows)) (drop 4 rs), H .rows, H .vacant, H .postings, H .stopped, same)
+      sym (padded-take rs (headWidth + rowWidth * length (x .rows)) (omega (arith, H .long, H .fit)) (H .unused))
+      ∙ rw (H .long, ← front rs (rowWidth * length (x .rows)) (omega (arith, H .long)), ← flat-entries rowWidth (length (x .rows)) (drop headWidth rs), H .rows, H .vacant, H .postings, H .stopped, same)
     where
-      entry : (j : ℕ) → j < length (x .rows) → entryAt 4 j (drop 4 rs) ≡ rowWords (getD (x .rows) j none) (getD (x .vacant) j 0)
+      entry : (j : ℕ) → j < length (x .rows) → entryAt rowWidth j (drop headWidth rs) ≡ rowWords (getD (x .rows) j none) (getD (x .vacant) j 0)
       entry j h =
-          let l : length (entryAt 4 j (drop 4 rs)) ≡ 4 = length-take-le 4 (drop (4 * j) (drop 4 rs)) (simp length-drop (omega (arith, H .long, H .fit))) in
-          ext-getD 0 (entryAt 4 j (drop 4 rs)) (rowWords (getD (x .rows) j none) (getD (x .vacant) j 0)) (l ∙ sym (four (getD (x .rows) j none) (getD (x .vacant) j 0)))
+          let l : length (entryAt rowWidth j (drop headWidth rs)) ≡ rowWidth = length-take-le rowWidth (drop (rowWidth * j) (drop headWidth rs)) (simp length-drop (omega (arith, H .long, H .fit))) in
+          ext-getD 0 (entryAt rowWidth j (drop headWidth rs)) (rowWords (getD (x .rows) j none) (getD (x .vacant) j 0)) (l ∙ sym (four (getD (x .rows) j none) (getD (x .vacant) j 0)))
           (λ f lt. row-word rs j f (omega arith) ∙ H .row j f h (omega arith))
 
-      same : entries 4 (length (x .rows)) (drop 4 rs) ≡ rowEntries (x .rows) (x .vacant)
+      same : entries rowWidth (length (x .rows)) (drop headWidth rs) ≡ rowEntries (x .rows) (x .vacant)
       same =
-          ext-getD [] (entries 4 (length (x .rows)) (drop 4 rs)) (rowEntries (x .rows) (x .vacant)) (length-entries 4 (length (x .rows)) (drop 4 rs) ∙ sym (length-rows (x .rows) (x .vacant)))
-          (λ j lt. let h : j < length (x .rows) = omega (arith, length-entries 4 (length (x .rows)) (drop 4 rs)) in
-          entries-at 4 (length (x .rows)) (drop 4 rs) j h ∙ entry j h ∙ sym (row-at (x .rows) (x .vacant) j h))
+          ext-getD [] (entries rowWidth (length (x .rows)) (drop headWidth rs)) (rowEntries (x .rows) (x .vacant)) (length-entries rowWidth (length (x .rows)) (drop headWidth rs) ∙ sym (length-rows (x .rows) (x .vacant)))
+          (λ j lt. let h : j < length (x .rows) = omega (arith, length-entries rowWidth (length (x .rows)) (drop headWidth rs)) in
+          entries-at rowWidth (length (x .rows)) (drop headWidth rs) j h ∙ entry j h ∙ sym (row-at (x .rows) (x .vacant) j h))
 
   pub postings-are : (ps : List ℕ) → length ps ≡ w * z .P → length (x .postings) ≤ z .P → entries w (length (x .postings)) ps ≡ map postingWords (x .postings)
       → zeroFrom ps (w * length (x .postings)) ≡ true → ps ≡ write w z x .postings

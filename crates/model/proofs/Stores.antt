@@ -11,7 +11,7 @@ use borrow.Author.Tests.{eqb-true, eq-eqb}
 use Rattle.lists.proofs.Tests.{test, and-left, and-right, both-true}
 use Rattle.model.specs.Index.{Index}
 use Rattle.model.specs.Calls.{Sizes, unlisted, unsound, holds}
-use Rattle.model.specs.Words.{Words, sizesOf, sizesListed, slicesListed, write, readIndex}
+use Rattle.model.specs.Words.{Words, sizesOf, sizesListed, slicesListed, write, readIndex, headWidth, rowWidth}
 use Rattle.model.specs.Sound.{Sound, SoundStore}
 use Rattle.model.specs.Soundness.{soundWords}
 use Rattle.model.specs.Run.{storeOf, laidOut}
@@ -22,23 +22,27 @@ use Rattle.model.proofs.Read.{read-sound, write-read}
 
 -- ---- from words to an index
 
+by-sizes : (w : ℕ) (m : Words) → slicesListed w m ≡ sizesListed (sizesOf w m) && (eqb (length (m .references)) (headWidth + rowWidth * sizesOf w m .R) && eqb (length (m .postings)) (w * sizesOf w m .P))
+unfolding slicesListed sizesOf
+by-sizes w m = refl
+
 module _ (w : ℕ) (m : Words) (w2 : 2 ≤ w) (l : slicesListed w m ≡ true) where
   abbrev z : Sizes
   z = sizesOf w m
 
-  exact : eqb (length (m .references)) (4 + 4 * z .R) && eqb (length (m .postings)) (w * z .P) ≡ true
-  unfolding slicesListed
+  exact : eqb (length (m .references)) (headWidth + rowWidth * z .R) && eqb (length (m .postings)) (w * z .P) ≡ true
+  unfolding slicesListed sizesOf
   exact = and-right (sizesListed z) _ l
 
   pub sizes-listed : sizesListed (sizesOf w m) ≡ true
-  unfolding slicesListed
+  unfolding slicesListed sizesOf
   sizes-listed = and-left (sizesListed z) _ l
 
-  pub references-long : length (m .references) ≡ 4 + 4 * sizesOf w m .R
-  references-long = eqb-true (length (m .references)) (4 + 4 * z .R) (and-left (eqb (length (m .references)) (4 + 4 * z .R)) _ exact)
+  pub references-long : length (m .references) ≡ headWidth + rowWidth * sizesOf w m .R
+  references-long = eqb-true (length (m .references)) (headWidth + rowWidth * z .R) (and-left (eqb (length (m .references)) (headWidth + rowWidth * z .R)) _ exact)
 
   pub postings-long : length (m .postings) ≡ w * sizesOf w m .P
-  postings-long = eqb-true (length (m .postings)) (w * z .P) (and-right (eqb (length (m .references)) (4 + 4 * z .R)) _ exact)
+  postings-long = eqb-true (length (m .postings)) (w * z .P) (and-right (eqb (length (m .references)) (headWidth + rowWidth * z .R)) _ exact)
 
   pub stopped-long : length (m .stopped) ≡ sizesOf w m .K
   unfolding sizesOf
@@ -64,9 +68,8 @@ module _ (w : ℕ) (z : Sizes) (x : Index) (w2 : 2 ≤ w) (h : Sound w z x) wher
   written-sizes = sizes-written w z x (fewer w z x w2 h) (h .wide) (h .rows-fit) (h .postings-fit) (h .stopped-fit) (omega arith)
 
   pub written-listed : sizesListed z ≡ true → slicesListed w (write w z x) ≡ true
-  unfolding slicesListed
-  written-listed l = rw written-sizes (both-true (sizesListed z) _ l (both-true (eqb (length (write w z x .references)) (4 + 4 * z .R)) _
-      (eq-eqb (length (write w z x .references)) (4 + 4 * z .R) (length-references w z x (fewer w z x w2 h) (h .wide) (h .rows-fit) (h .postings-fit) (h .stopped-fit)))
+  written-listed l = by-sizes w (write w z x) ∙ rw written-sizes (both-true (sizesListed z) _ l (both-true (eqb (length (write w z x .references)) (headWidth + rowWidth * z .R)) _
+      (eq-eqb (length (write w z x .references)) (headWidth + rowWidth * z .R) (length-references w z x (fewer w z x w2 h) (h .wide) (h .rows-fit) (h .postings-fit) (h .stopped-fit)))
       (eq-eqb (length (write w z x .postings)) (w * z .P) (length-postings w z x (fewer w z x w2 h) (h .wide) (h .rows-fit) (h .postings-fit) (h .stopped-fit)))))
 
   pub written-read : readIndex w (write w z x) ≡ x

@@ -15,11 +15,11 @@ use Rattle.lists.proofs.Entries.{entries-flat, entries-fewer, length-padded, pa
 use Rattle.model.specs.Rows.{Row}
 use Rattle.model.specs.Index.{Posting, Index}
 use Rattle.model.specs.Calls.{Sizes}
-use Rattle.model.specs.Words.{sizesOf, rowWords, rowEntries, postingWords, write, readRow, readVacant, readPosting, readIndex}
+use Rattle.model.specs.Words.{sizesOf, rowWords, rowEntries, postingWords, write, readRow, readVacant, readPosting, readIndex, headWidth, rowWidth}
 
 -- ---- rows
 
-pub four : (o : Option Row) (e : ℕ) → length (rowWords o e) ≡ 4
+pub four : (o : Option Row) (e : ℕ) → length (rowWords o e) ≡ rowWidth
 four none e = refl
 four (some r) e = refl
 
@@ -31,7 +31,7 @@ entry-again : (o : Option Row) (e : ℕ) → readVacant (rowWords o e) ≡ e
 entry-again none e = refl
 entry-again (some x) e = refl
 
-pub wide-rows : (os : List (Option Row)) (es : List ℕ) → Wide 4 (rowEntries os es)
+pub wide-rows : (os : List (Option Row)) (es : List ℕ) → Wide rowWidth (rowEntries os es)
 unfolding rowEntries
 wide-rows [] es = tt
 wide-rows (o ∷ os) [] = (four o 0, wide-rows os [])
@@ -96,9 +96,9 @@ module _ (w : ℕ) (z : Sizes) (x : Index) (fewer : length (x .vacant) ≤ lengt
   unfolding write padded
   header-stopped = refl
 
-  pub written-rows : entries 4 (length (x .rows)) (drop 4 (write w z x .references)) ≡ rowEntries (x .rows) (x .vacant)
+  pub written-rows : entries rowWidth (length (x .rows)) (drop headWidth (write w z x .references)) ≡ rowEntries (x .rows) (x .vacant)
   unfolding write padded
-  written-rows = rw (← length-rows (x .rows) (x .vacant)) (entries-flat 4 (rowEntries (x .rows) (x .vacant)) _ (wide-rows (x .rows) (x .vacant)))
+  written-rows = rw (← length-rows (x .rows) (x .vacant)) (entries-flat rowWidth (rowEntries (x .rows) (x .vacant)) _ (wide-rows (x .rows) (x .vacant)))
 
   pub written-postings : entries w (length (x .postings)) (write w z x .postings) ≡ map postingWords (x .postings)
   unfolding write padded
@@ -112,11 +112,11 @@ module _ (w : ℕ) (z : Sizes) (x : Index) (fewer : length (x .vacant) ≤ lengt
   unfolding readIndex
   read-write = λ i. record { rows = rows i; vacant = vacant i; postings = postings i; stopped = stopped i }
     where
-      rows : map readRow (entries 4 (getD (write w z x .references) 0 0) (drop 4 (write w z x .references))) ≡ x .rows
+      rows : map readRow (entries rowWidth (getD (write w z x .references) 0 0) (drop headWidth (write w z x .references))) ≡ x .rows
       rows = rw (header-rows, written-rows) (rows-again (x .rows) (x .vacant))
 
-      vacant : map readVacant (entries 4 (getD (write w z x .references) 1 0) (drop 4 (write w z x .references))) ≡ x .vacant
-      vacant = rw (header-vacant, entries-fewer 4 (length (x .vacant)) (length (x .rows)) (drop 4 (write w z x .references)) fewer, written-rows) (vacant-again (x .rows) (x .vacant) fewer)
+      vacant : map readVacant (entries rowWidth (getD (write w z x .references) 1 0) (drop headWidth (write w z x .references))) ≡ x .vacant
+      vacant = rw (header-vacant, entries-fewer rowWidth (length (x .vacant)) (length (x .rows)) (drop headWidth (write w z x .references)) fewer, written-rows) (vacant-again (x .rows) (x .vacant) fewer)
 
       postings : map readPosting (entries w (getD (write w z x .references) 2 0) (write w z x .postings)) ≡ x .postings
       postings = rw (header-postings, written-postings) (map-map readPosting postingWords (x .postings) ∙ map-id (x .postings))
@@ -126,17 +126,17 @@ module _ (w : ℕ) (z : Sizes) (x : Index) (fewer : length (x .vacant) ≤ lengt
 
   -- ---- unused words
 
-  length-row-words : length (flat (rowEntries (x .rows) (x .vacant))) ≡ 4 * length (x .rows)
-  length-row-words = length-flat 4 (rowEntries (x .rows) (x .vacant)) (wide-rows (x .rows) (x .vacant)) ∙ rw (length-rows (x .rows) (x .vacant))
+  length-row-words : length (flat (rowEntries (x .rows) (x .vacant))) ≡ rowWidth * length (x .rows)
+  length-row-words = length-flat rowWidth (rowEntries (x .rows) (x .vacant)) (wide-rows (x .rows) (x .vacant)) ∙ rw (length-rows (x .rows) (x .vacant))
 
   length-posting-words : length (flat (map postingWords (x .postings))) ≡ w * length (x .postings)
   length-posting-words = length-flat w (map postingWords (x .postings)) (wide-postings w (x .postings) wide) ∙ rw (length-map (x .postings) postingWords)
 
-  pub unused-rows : zeroFrom (write w z x .references) (4 + 4 * length (x .rows)) ≡ true
+  pub unused-rows : zeroFrom (write w z x .references) (headWidth + rowWidth * length (x .rows)) ≡ true
   unfolding write
-  unused-rows = rw (← header (length (flat (rowEntries (x .rows) (x .vacant)))) length-row-words) (padded-zero (4 + 4 * z .R) _)
+  unused-rows = rw (← header (length (flat (rowEntries (x .rows) (x .vacant)))) length-row-words) (padded-zero (headWidth + rowWidth * z .R) _)
     where
-      header : (l : ℕ) → l ≡ 4 * length (x .rows) → suc (suc (suc (suc l))) ≡ 4 + 4 * length (x .rows)
+      header : (l : ℕ) → l ≡ rowWidth * length (x .rows) → suc (suc (suc (suc l))) ≡ headWidth + rowWidth * length (x .rows)
       header l e = omega arith
 
   pub unused-postings : zeroFrom (write w z x .postings) (w * length (x .postings)) ≡ true
@@ -150,9 +150,9 @@ module _ (w : ℕ) (z : Sizes) (x : Index) (fewer : length (x .vacant) ≤ lengt
   -- ---- lengths
 
   module _ (rows-fit : length (x .rows) ≤ z .R) (postings-fit : length (x .postings) ≤ z .P) (stopped-fit : length (x .stopped) ≤ z .K) where
-    pub length-references : length (write w z x .references) ≡ 4 + 4 * z .R
+    pub length-references : length (write w z x .references) ≡ headWidth + rowWidth * z .R
     unfolding write
-    length-references = length-padded (4 + 4 * z .R) _ (omega (arith, length-row-words))
+    length-references = length-padded (headWidth + rowWidth * z .R) _ (omega (arith, length-row-words))
 
     pub length-postings : length (write w z x .postings) ≡ w * z .P
     unfolding write
@@ -168,7 +168,7 @@ module _ (w : ℕ) (z : Sizes) (x : Index) (fewer : length (x .vacant) ≤ lengt
     unfolding sizesOf
     sizes-written w0 = λ i. record { R = rows i; P = postings i; K = length-stopped i }
       where
-        rows : (length (write w z x .references) - 4) / 4 ≡ z .R
+        rows : (length (write w z x .references) - headWidth) / rowWidth ≡ z .R
         rows = rw length-references (omega arith)
 
         postings : length (write w z x .postings) / w ≡ z .P

@@ -23,17 +23,17 @@ use Rattle.lists.proofs.Entries.{entries-at, entry-word, entry-key, entries-sor
 use Rattle.model.specs.Rows.{Row, hasRmax, noRate, isCanonical, rowSound, hashSound, anchor}
 use Rattle.model.specs.Index.{Posting, Index, isStopped}
 use Rattle.model.specs.Calls.{Sizes}
-use Rattle.model.specs.Words.{rowWords, postingWords, write}
+use Rattle.model.specs.Words.{rowWords, postingWords, write, headWidth, rowWidth, rowPlace, atRate, atRmax, atLive, atVacant}
 use Rattle.model.specs.Sound.{isDead, goodRow, goodHash, Sound}
 use Rattle.model.specs.Soundness.{rowWord, postingWord, deadRow, soundWords}
 use Rattle.model.proofs.Words.{row-at, header-rows, header-vacant, header-postings, header-stopped, written-rows, written-postings, written-stopped, unused-rows, unused-postings, unused-stopped, sizes-written}
 use Rattle.model.proofs.Facts.{Facts, tests}
 
 -- a row's words, by the entry
-pub row-word : (rs : List ℕ) (j f : ℕ) → f < 4 → getD (entryAt 4 j (drop 4 rs)) f 0 ≡ rowWord rs j f
+pub row-word : (rs : List ℕ) (j f : ℕ) → f < rowWidth → getD (entryAt rowWidth j (drop headWidth rs)) f 0 ≡ rowWord rs j f
 row-word rs j f h =
-    let e : 4 + (4 * j + f) ≡ 4 * j + (4 + f) = omega arith in
-    entry-word 4 j (drop 4 rs) f h ∙ getD-drop 4 rs (4 * j + f) 0 ∙ rw e
+    let e : headWidth + (rowWidth * j + f) ≡ rowPlace j f = omega arith in
+    entry-word rowWidth j (drop headWidth rs) f h ∙ getD-drop headWidth rs (rowWidth * j + f) 0 ∙ rw e
 
 -- a posting's
 pub id-word : (w : ℕ) (ps : List ℕ) (i : ℕ) → 2 ≤ w → getD (entryAt w i ps) 1 0 ≡ postingWord ps w i 1
@@ -99,15 +99,15 @@ module _ (w : ℕ) (z : Sizes) (x : Index) (w2 : 2 ≤ w) (h : Sound w z x) wher
 
   -- ---- rows
 
-  row-is : (j f : ℕ) → j < n → f < 4 → rowWord rs j f ≡ getD (rowWords (getD (x .rows) j none) (getD (x .vacant) j 0)) f 0
+  row-is : (j f : ℕ) → j < n → f < rowWidth → rowWord rs j f ≡ getD (rowWords (getD (x .rows) j none) (getD (x .vacant) j 0)) f 0
   row-is j f lt le =
       sym (row-word rs j f le)
-      ∙ ap (λ (e : List ℕ). getD e f 0) (sym (entries-at 4 n (drop 4 rs) j lt)
+      ∙ ap (λ (e : List ℕ). getD e f 0) (sym (entries-at rowWidth n (drop headWidth rs) j lt)
       ∙ ap (λ (l : List (List ℕ)). getD l j []) (written-rows w z x fewer (h .wide))
       ∙ row-at (x .rows) (x .vacant) j lt)
 
-  vacant-is : (i : ℕ) → i < n → rowWord rs i 3 ≡ getD (x .vacant) i 0
-  vacant-is i lt = row-is i 3 lt (omega arith) ∙ entry-word-is (getD (x .rows) i none) (getD (x .vacant) i 0)
+  vacant-is : (i : ℕ) → i < n → rowWord rs i atVacant ≡ getD (x .vacant) i 0
+  vacant-is i lt = row-is i atVacant lt (omega arith) ∙ entry-word-is (getD (x .rows) i none) (getD (x .vacant) i 0)
 
   good : (j : ℕ) → j < n → goodRow w (getD (x .rows) j none) ≡ true
   good j lt = all-at (λ o. goodRow w o ≡ true) (x .rows) none (h .rows-good) j lt
@@ -116,14 +116,14 @@ module _ (w : ℕ) (z : Sizes) (x : Index) (w2 : 2 ≤ w) (h : Sound w z x) wher
   unfolding deadRow
   deads-are =
       count-same (deadRow rs) (λ j. isDead (getD (x .rows) j none)) n
-      (λ j lt. rw (row-is j 2 lt (omega arith)) (dead-test (getD (x .rows) j none) (getD (x .vacant) j 0)))
+      (λ j lt. rw (row-is j atLive lt (omega arith)) (dead-test (getD (x .rows) j none) (getD (x .vacant) j 0)))
       ∙ count-keep isDead (x .rows) none ∙ h .as-many
 
   -- ---- postings
 
   -- what is asked of a posting's words
   abbrev Held : List ℕ → Type 0
-  Held e = (getD e 1 0 < n) × (rowWord rs (getD e 1 0) 2 ≡ 1) × (hasRmax w ≡ true → getD e 2 0 ≤ rowWord rs (getD e 1 0) 1)
+  Held e = (getD e 1 0 < n) × (rowWord rs (getD e 1 0) atLive ≡ 1) × (hasRmax w ≡ true → getD e 2 0 ≤ rowWord rs (getD e 1 0) atRmax)
 
   held : (p : Posting) → goodHash w (getD (x .rows) (p .id) none) (p .hash) ≡ true → Held (postingWords p)
   unfolding hashSound
@@ -131,9 +131,9 @@ module _ (w : ℕ) (z : Sizes) (x : Index) (w2 : 2 ≤ w) (h : Sound w z x) wher
       (λ (le : n ≤ p .id). absurd (not-both g (rw (List·getD-eq-default (x .rows) none le))))
       (λ (lt : p .id < n). (
         lt,
-        row-is (p .id) 2 lt (omega arith) ∙ live (getD (x .rows) (p .id) none) (getD (x .vacant) (p .id) 0) g,
+        row-is (p .id) atLive lt (omega arith) ∙ live (getD (x .rows) (p .id) none) (getD (x .vacant) (p .id) 0) g,
         λ e.
-            rw (row-is (p .id) 1 lt (omega arith)) (below (getD (x .rows) (p .id) none) (getD (x .vacant) (p .id) 0) g e),
+            rw (row-is (p .id) atRmax lt (omega arith)) (below (getD (x .rows) (p .id) none) (getD (x .vacant) (p .id) 0) g e),
       ))
       (le-or-lt n (p .id))
     where
@@ -173,20 +173,20 @@ module _ (w : ℕ) (z : Sizes) (x : Index) (w2 : 2 ≤ w) (h : Sound w z x) wher
     vacant-fit = fewer;
     postings-fit = h .postings-fit;
     stopped-fit = h .stopped-fit;
-    live = λ j lt. rw (row-is j 2 lt (omega arith)) (live-word (getD (x .rows) j none) (getD (x .vacant) j 0));
+    live = λ j lt. rw (row-is j atLive lt (omega arith)) (live-word (getD (x .rows) j none) (getD (x .vacant) j 0));
     keys = entries-sorted w (length (x .postings)) ps (omega arith) keys-ascend;
     stops = λ i lt. rw (stopped-is i (omega arith), stopped-is (i + 1) lt) (ascending-at (λ k. k) (x .stopped) 0 (h .ascending) i (i + 1) (omega arith) lt);
     deads = deads-are;
     vacant-within = λ i lt. rw (vacant-is i (omega (arith, fewer))) (h .within i lt);
-    vacant-dead = λ i lt. rw (vacant-is i (omega (arith, fewer)), row-is (getD (x .vacant) i 0) 2 (h .within i lt) (omega arith)) (dead-word _ _ (h .dead i lt));
+    vacant-dead = λ i lt. rw (vacant-is i (omega (arith, fewer)), row-is (getD (x .vacant) i 0) atLive (h .within i lt) (omega arith)) (dead-word _ _ (h .dead i lt));
     vacant-once = λ i j lt l e. let same = h .once j i (omega arith) lt (sym (vacant-is j (omega (arith, fewer))) ∙ e ∙ vacant-is i (omega (arith, fewer))) in omega arith;
-    dead-rate = λ j lt e. row-is j 0 lt (omega arith) ∙ dead-rate-word (getD (x .rows) j none) (getD (x .vacant) j 0) (sym (row-is j 2 lt (omega arith)) ∙ e);
-    dead-rmax = λ j lt e. row-is j 1 lt (omega arith) ∙ dead-rmax-word (getD (x .rows) j none) (getD (x .vacant) j 0) (sym (row-is j 2 lt (omega arith)) ∙ e);
-    rate = λ j lt e. rw (row-is j 0 lt (omega arith)) (rate-word w (getD (x .rows) j none) (getD (x .vacant) j 0) (good j lt) (λ d. e (row-is j 2 lt (omega arith) ∙ d)));
+    dead-rate = λ j lt e. row-is j atRate lt (omega arith) ∙ dead-rate-word (getD (x .rows) j none) (getD (x .vacant) j 0) (sym (row-is j atLive lt (omega arith)) ∙ e);
+    dead-rmax = λ j lt e. row-is j atRmax lt (omega arith) ∙ dead-rmax-word (getD (x .rows) j none) (getD (x .vacant) j 0) (sym (row-is j atLive lt (omega arith)) ∙ e);
+    rate = λ j lt e. rw (row-is j atRate lt (omega arith)) (rate-word w (getD (x .rows) j none) (getD (x .vacant) j 0) (good j lt) (λ d. e (row-is j atLive lt (omega arith) ∙ d)));
     id-within = λ i lt. rw (← id-word w ps i w2) (posting-held i lt .0);
     id-live = λ i lt. rw (← id-word w ps i w2) (posting-held i lt .1);
     anchors = λ i lt e. rw (← id-word w ps i w2, ← anchor-word w ps i e) (posting-held i lt .2 e);
-    rmax = λ j lt e. row-is j 1 lt (omega arith) ∙ rmax-word w (getD (x .rows) j none) (getD (x .vacant) j 0) (good j lt) e;
+    rmax = λ j lt e. row-is j atRmax lt (omega arith) ∙ rmax-word w (getD (x .rows) j none) (getD (x .vacant) j 0) (good j lt) e;
     unstopped = λ i j lt l e. eqb-false (getD (x .stopped) j 0) (firstWord (entryAt w i ps))
         (all-at (λ k. eqb k (firstWord (entryAt w i ps)) ≡ false) (x .stopped) 0 (none-pass (λ k. eqb k (firstWord (entryAt w i ps))) (x .stopped) (other-keys i lt)) j l)
         (sym (stopped-is j l) ∙ e ∙ sym (entry-key w i ps (omega arith)));

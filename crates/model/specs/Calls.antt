@@ -62,6 +62,11 @@ abbrev pub refusal : List (ℕ × Bool) → Option ℕ
 refusal [] = none
 refusal (e ∷ es) = cond (e .1) (some (e .0)) (refusal es)
 
+-- the number of a refusal, 0 where there is none
+abbrev pub numberOf : Option ℕ → ℕ
+numberOf none = 0
+numberOf (some n) = n
+
 -- "build: more than R references"; "build: p = 0, nothing stopped"; "stopped keys after the call would exceed K"
 unfoldable pub buildTests : Sizes → Store → Bool → ℕ → List Fingerprint → List (ℕ × Bool)
 buildTests z s bad limit fs =
@@ -89,13 +94,13 @@ insertTests z s bad limit f =
 unfoldable pub plainTests : Store → List (ℕ × Bool)
 plainTests s = (1, isUnlisted s) ∷ (2, isUnsound s) ∷ []
 
--- "Scratch of i64: 6 words a vote (Wang), 12 (Panako), whole votes only, 0 to 1,000,000 votes."
-unfoldable pub scratchListed : (S : Scheme) → Query S → Bool
-scratchListed S q = eqb (q .scratch % S .voteWords) 0 && leb (q .scratch / S .voteWords) 1000000
+-- "Scratch of i64: 6 words a vote (Wang), 12 (Panako), whole votes only, 0 to 1,000,000 votes": n words, v a vote
+unfoldable pub scratchListed : ℕ → ℕ → Bool
+scratchListed v n = eqb (n % v) 0 && leb (n / v) 1000000
 
 unfoldable pub queryTests : (S : Scheme) → Store → Query S → List (ℕ × Bool)
 queryTests S s q =
-    (1, isUnlisted s || not (scratchListed S q))
+    (1, isUnlisted s || not (scratchListed (S .voteWords) (q .scratch)))
     ∷ (2, isUnsound s)
     ∷ (3, malformed (S .width) queryMost (q .words))
     ∷ (4, S .beyond (q .ask))

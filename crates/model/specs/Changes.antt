@@ -4,12 +4,12 @@
 use mathlib.Core.Bool.{Bool, true, false, _&&_}
 use mathlib.Core.List.{List, [], _∷_, _++_}
 use mathlib.Core.Option.{Option, none, some}
-use Prim.Native.Nat.{ℕ, _*_}
+use Prim.Native.Nat.{ℕ, _+_, _*_}
 use lib.Dec.{eqb}
 use lib.ListN.{replicate}
 use Rattle.model.specs.Query.{Scheme, Query}
 use Rattle.model.specs.Calls.{Answer, built, stored, removed, count, best, nothing, refused, Call, build, insert, remove, query}
-use Rattle.model.specs.Words.{Words}
+use Rattle.model.specs.Words.{Words, headWidth, rowWidth}
 use Rattle.model.specs.Run.{run}
 use Rattle.model.specs.History.{leaves}
 
@@ -48,7 +48,7 @@ module _ (S : Scheme) where
 
   -- zeroed slices: R 3, P 6, K 2
   abbrev pub blank : Words
-  blank = record { references = replicate 16 0; postings = replicate (6 * S .width) 0; stopped = replicate 2 0 }
+  blank = record { references = replicate (headWidth + rowWidth * 3) 0; postings = replicate (6 * S .width) 0; stopped = replicate 2 0 }
 
   abbrev pub answer : Query S → List (Call S) → Option (ℕ × ℕ)
   answer q calls = bestAndVotes (run S (leaves S (run S) blank calls) (query q) .0)

@@ -12,11 +12,11 @@ use Rattle.lists.specs.Every.{every, count, allTrue}
 use Rattle.lists.specs.Entries.{keyAt, keysAscend, zeroFrom}
 use Rattle.model.specs.Rows.{hasRmax, noRate, isCanonical}
 use Rattle.model.specs.Calls.{Sizes}
-use Rattle.model.specs.Words.{Words, headWidth, rowWidth, sizesOf}
+use Rattle.model.specs.Words.{Words, headWidth, rowWidth, sizesOf, rowPlace, atRate, atRmax, atLive, atVacant}
 
--- word f of row j: 0 rate bits, 1 r_max, 2 live, 3 vacant entry
+-- word f of row j
 abbrev pub rowWord : List ℕ → ℕ → ℕ → ℕ
-rowWord rs j f = getD rs (rowWidth * j + (headWidth + f)) 0
+rowWord rs j f = getD rs (rowPlace j f) 0
 
 -- word f of posting i: 1 id, 2 t_anchor; its key is `keyAt ps w i`
 abbrev pub postingWord : List ℕ → ℕ → ℕ → ℕ → ℕ
@@ -28,7 +28,7 @@ countsFit z n v p k = leb n (z .R) && (leb v n && (leb p (z .P) && leb k (z .K))
 
 -- "live words are 1 or 0"
 unfoldable pub liveWord : List ℕ → ℕ → Bool
-liveWord rs j = leb (rowWord rs j 2) 1
+liveWord rs j = leb (rowWord rs j atLive) 1
 
 -- "stopped keys ascend", strictly
 unfoldable pub stoppedStep : List ℕ → ℕ → Bool
@@ -36,37 +36,37 @@ stoppedStep ss i = ltb (getD ss i 0) (getD ss (i + 1) 0)
 
 -- "the first n rows hold v dead ids": their number is compared
 unfoldable pub deadRow : List ℕ → ℕ → Bool
-deadRow rs j = eqb (rowWord rs j 2) 0
+deadRow rs j = eqb (rowWord rs j atLive) 0
 
 -- "and the first v vacant entries name each once": entry i is a dead id among the first n, and no entry before it is the same
 unfoldable pub otherEntry : List ℕ → ℕ → ℕ → Bool
-otherEntry rs i j = not (eqb (rowWord rs j 3) (rowWord rs i 3))
+otherEntry rs i j = not (eqb (rowWord rs j atVacant) (rowWord rs i atVacant))
 
 unfoldable pub vacantEntry : List ℕ → ℕ → ℕ → Bool
-vacantEntry rs n i = ltb (rowWord rs i 3) n && (deadRow rs (rowWord rs i 3) && every i (otherEntry rs i))
+vacantEntry rs n i = ltb (rowWord rs i atVacant) n && (deadRow rs (rowWord rs i atVacant) && every i (otherEntry rs i))
 
 -- "a dead row has rate 7FC00000 (hexadecimal) and r_max 0"
 unfoldable pub deadFine : List ℕ → ℕ → Bool
-deadFine rs j = not (deadRow rs j) || (eqb (rowWord rs j 0) noRate && eqb (rowWord rs j 1) 0)
+deadFine rs j = not (deadRow rs j) || (eqb (rowWord rs j atRate) noRate && eqb (rowWord rs j atRmax) 0)
 
 -- "a live NaN rate is stored as that word"
 unfoldable pub rateFine : List ℕ → ℕ → Bool
-rateFine rs j = deadRow rs j || isCanonical (rowWord rs j 0)
+rateFine rs j = deadRow rs j || isCanonical (rowWord rs j atRate)
 
 -- "posting ids are live"
 unfoldable pub liveId : List ℕ → ℕ → ℕ → Bool
-liveId rs n id = ltb id n && eqb (rowWord rs id 2) 1
+liveId rs n id = ltb id n && eqb (rowWord rs id atLive) 1
 
 unfoldable pub postingLive : ℕ → List ℕ → ℕ → List ℕ → ℕ → Bool
 postingLive w rs n ps i = liveId rs n (postingWord ps w i 1)
 
 -- "a Wang posting's anchor is at most its row's r_max"
 unfoldable pub anchorFine : ℕ → List ℕ → List ℕ → ℕ → Bool
-anchorFine w rs ps i = not (hasRmax w) || leb (postingWord ps w i 2) (rowWord rs (postingWord ps w i 1) 1)
+anchorFine w rs ps i = not (hasRmax w) || leb (postingWord ps w i 2) (rowWord rs (postingWord ps w i 1) atRmax)
 
 -- "Panako r_max is 0"
 unfoldable pub rmaxFine : ℕ → List ℕ → ℕ → Bool
-rmaxFine w rs j = hasRmax w || eqb (rowWord rs j 1) 0
+rmaxFine w rs j = hasRmax w || eqb (rowWord rs j atRmax) 0
 
 -- "no posting has a stopped key": posting i's is none of the first k
 unfoldable pub otherKey : List ℕ → ℕ → ℕ → Bool
@@ -77,7 +77,7 @@ keyUnstopped w ss k ps i = every k (otherKey ss (keyAt ps w i))
 
 -- "every unused word is zero": of the vacant entries behind the first v, in the rows in use
 unfoldable pub entryUnused : List ℕ → ℕ → ℕ → Bool
-entryUnused rs v i = eqb (rowWord rs (v + i) 3) 0
+entryUnused rs v i = eqb (rowWord rs (v + i) atVacant) 0
 
 -- the conditions, in the paper's order
 unfoldable pub soundTests : ℕ → Sizes → List ℕ → List ℕ → List ℕ → ℕ → ℕ → ℕ → ℕ → List Bool

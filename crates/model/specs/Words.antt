@@ -25,11 +25,31 @@ headWidth = 4
 abbrev pub rowWidth : ℕ
 rowWidth = 4
 
+-- the words of a row: "rate bits, r_max, live (1 or 0), vacant entry"
+abbrev pub atRate : ℕ
+atRate = 0
+
+abbrev pub atRmax : ℕ
+atRmax = 1
+
+abbrev pub atLive : ℕ
+atLive = 2
+
+abbrev pub atVacant : ℕ
+atVacant = 3
+
+-- where word f of row j stands
+abbrev pub rowPlace : ℕ → ℕ → ℕ
+rowPlace j f = rowWidth * j + (headWidth + f)
+
 -- ── sizes ──
 
--- "R .. (slice 4 + 4 × R words); P .. (3 × P or 5 × P words); K .. words"
+-- "R .. (slice 4 + 4 × R words); P .. (3 × P or 5 × P words); K .. words": the room in slices of a, b and c words
+abbrev pub roomIn : ℕ → ℕ → ℕ → ℕ → Sizes
+roomIn w a b c = record { R = (a - headWidth) / rowWidth; P = b / w; K = c }
+
 unfoldable pub sizesOf : ℕ → Words → Sizes
-sizesOf w m = record { R = (length (m .references) - headWidth) / rowWidth; P = length (m .postings) / w; K = length (m .stopped) }
+sizesOf w m = roomIn w (length (m .references)) (length (m .postings)) (length (m .stopped))
 
 -- from a to b
 abbrev pub between : ℕ → ℕ → ℕ → Bool
@@ -40,10 +60,13 @@ unfoldable pub sizesListed : Sizes → Bool
 sizesListed z = between 1 4096 (z .R) && (between 1 1048576 (z .P) && between 1 65536 (z .K))
 
 -- the slices' lengths are of those listed
+abbrev pub lengthsListed : ℕ → ℕ → ℕ → ℕ → Bool
+lengthsListed w a b c =
+    let z = roomIn w a b c in
+    sizesListed z && (eqb a (headWidth + rowWidth * z .R) && eqb b (w * z .P))
+
 unfoldable pub slicesListed : ℕ → Words → Bool
-slicesListed w m =
-    let z = sizesOf w m in
-    sizesListed z && (eqb (length (m .references)) (headWidth + rowWidth * z .R) && eqb (length (m .postings)) (w * z .P))
+slicesListed w m = lengthsListed w (length (m .references)) (length (m .postings)) (length (m .stopped))
 
 -- ── writing ──
 
@@ -81,10 +104,10 @@ write w z x = record {
 -- ── reading ──
 
 abbrev pub readRow : List ℕ → Option Row
-readRow e = cond (eqb (getD e 2 0) 1) (some (record { rate = getD e 0 0; rmax = getD e 1 0 })) none
+readRow e = cond (eqb (getD e atLive 0) 1) (some (record { rate = getD e atRate 0; rmax = getD e atRmax 0 })) none
 
 abbrev pub readVacant : List ℕ → ℕ
-readVacant e = getD e 3 0
+readVacant e = getD e atVacant 0
 
 abbrev pub readPosting : List ℕ → Posting
 readPosting e = record { id = getD e 1 0; hash = record { key = getD e 0 0; times = drop 2 e } }

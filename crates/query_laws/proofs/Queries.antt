@@ -12,10 +12,11 @@ use Rattle.lists.proofs.Tests.{and-right}
 use Rattle.model.specs.Fingerprints.{hashesOf}
 use Rattle.model.specs.Rows.{Row}
 use Rattle.model.specs.Query.{Scheme, Query}
-use Rattle.model.specs.Calls.{Answer, refused}
+use Rattle.model.specs.Calls.{Answer, refused, scratchListed}
 use Rattle.model.specs.Words.{Words}
 use Rattle.model.specs.Run.{runQuery}
-use Rattle.query_refusals.specs.Early.{wholeVotes, earlyRefusal}
+use Rattle.query_refusals.specs.Early.{earlyRefusal}
+use Rattle.query_rank.specs.Answers.{scratchAfter}
 use Rattle.query_refusals.proofs.Early.{Passed, passed, refused-early, query-is}
 use Rattle.query_search.specs.Gathered.{Pairing, wordsFrom}
 use Rattle.query_laws.specs.Candidates.{Reading, answerIn}
@@ -23,8 +24,8 @@ use Rattle.query_laws.proofs.Gathering.{RightAll}
 use Rattle.query_laws.proofs.Meaning.{answer-is}
 
 -- "whole votes only, 0 to 1,000,000 votes"
-pub few-votes : (v n : ℕ) → wholeVotes v n ≡ true → n / v ≤ 1000000
-unfolding wholeVotes
+pub few-votes : (v n : ℕ) → scratchListed v n ≡ true → n / v ≤ 1000000
+unfolding scratchListed
 few-votes v n h = leb-true (n / v) 1000000 (and-right (eqb (n % v) 0) (leb (n / v) 1000000) h)
 
 module _ (S : Scheme) (w2 : 2 ≤ S .width) (m : Words) (a : S .Ask) (hs : List ℕ) (s : List ℤ) (r : ℕ) (e : r ≡ earlyRefusal (S .width) (S .voteWords) m (length s) hs (S .beyond a)) where

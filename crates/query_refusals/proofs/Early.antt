@@ -9,14 +9,14 @@ use borrow.Author.Tests.{not-false}
 use Rattle.lists.proofs.Tests.{test, not-both, or-right, or-false-left, or-false-right}
 use Rattle.model.specs.Fingerprints.{queryMost, malformed}
 use Rattle.model.specs.Query.{Scheme, Query, catalog, tooManyVotes, bestOf}
-use Rattle.model.specs.Calls.{isUnlisted, isUnsound, holds, content, Answer, refused, answerOf, refusal, outcome, scratchListed, queryTests, queryStep}
+use Rattle.model.specs.Calls.{isUnlisted, isUnsound, holds, content, Answer, refused, answerOf, refusal, numberOf, outcome, scratchListed, queryTests, queryStep}
 use Rattle.model.specs.Words.{Words, slicesListed, readIndex}
 use Rattle.model.specs.Soundness.{soundWords}
 use Rattle.model.specs.Run.{storeOf, onWords, runQuery}
 use Rattle.model.proofs.Stores.{sound-again, store-holds, store-unsound, store-unlisted, store-again}
 use Rattle.soundness.specs.Scan.{refusalOf}
 use Rattle.soundness.proofs.Refusal.{refusal-unlisted, refusal-unsound, refusal-none}
-use Rattle.query_refusals.specs.Early.{wholeVotes, earlyTests, numberOf, earlyRefusal}
+use Rattle.query_refusals.specs.Early.{earlyTests, earlyRefusal}
 
 -- ---- a table of four tests, and a fifth behind them
 
@@ -42,11 +42,11 @@ none-of false false false false n = (refl, refl, refl, refl)
 -- ---- the number, test by test
 
 module _ (w v : ℕ) (m : Words) (n : ℕ) (hs : List ℕ) (beyond : Bool) where
-  pub early-scratch : wholeVotes v n ≡ false → earlyRefusal w v m n hs beyond ≡ 1
+  pub early-scratch : scratchListed v n ≡ false → earlyRefusal w v m n hs beyond ≡ 1
   unfolding earlyRefusal earlyTests
-  early-scratch e = rw (or-right (isUnlisted (storeOf w m)) (not (wholeVotes v n)) (ap not e))
+  early-scratch e = rw (or-right (isUnlisted (storeOf w m)) (not (scratchListed v n)) (ap not e))
 
-  module _ (whole : wholeVotes v n ≡ true) where
+  module _ (whole : scratchListed v n ≡ true) where
     pub early-store : (refusalOf w m ≡ 0 → ⊥) → earlyRefusal w v m n hs beyond ≡ refusalOf w m
     unfolding earlyRefusal earlyTests
     early-store ne = test (slicesListed w m)
@@ -78,7 +78,7 @@ module _ (w v : ℕ) (m : Words) (n : ℕ) (hs : List ℕ) (beyond : Bool) where
 pub record Passed (w v : ℕ) (m : Words) (n : ℕ) (hs : List ℕ) (beyond : Bool) : Type 0 where
   pub is-listed : slicesListed w m ≡ true
   pub is-sound : soundWords w m ≡ true
-  pub whole : wholeVotes v n ≡ true
+  pub whole : scratchListed v n ≡ true
   pub formed : malformed w queryMost hs ≡ false
   pub within : beyond ≡ false
 
@@ -86,12 +86,12 @@ pub passed : (w v : ℕ) (m : Words) (n : ℕ) (hs : List ℕ) (beyond : Bool) �
 unfolding earlyRefusal earlyTests number
 passed w v m n hs beyond e = test (slicesListed w m)
     (λ l. test (soundWords w m)
-    (λ s. record { is-listed = l; is-sound = s; whole = not-false (wholeVotes v n) (or-false-right (isUnlisted (storeOf w m)) (not (wholeVotes v n)) (four .0)); formed = four .2; within = four .3 })
+    (λ s. record { is-listed = l; is-sound = s; whole = not-false (scratchListed v n) (or-false-right (isUnlisted (storeOf w m)) (not (scratchListed v n)) (four .0)); formed = four .2; within = four .3 })
     (λ s. absurd (not-both (ap isUnsound (store-unsound w m l s)) (four .1))))
-    (λ l. absurd (not-both (ap isUnlisted (store-unlisted w m l)) (or-false-left (isUnlisted (storeOf w m)) (not (wholeVotes v n)) (four .0))))
+    (λ l. absurd (not-both (ap isUnlisted (store-unlisted w m l)) (or-false-left (isUnlisted (storeOf w m)) (not (scratchListed v n)) (four .0))))
   where
-    four : (isUnlisted (storeOf w m) || not (wholeVotes v n) ≡ false) × (isUnsound (storeOf w m) ≡ false) × (malformed w queryMost hs ≡ false) × (beyond ≡ false)
-    four = none-of (isUnlisted (storeOf w m) || not (wholeVotes v n)) (isUnsound (storeOf w m)) (malformed w queryMost hs) beyond e
+    four : (isUnlisted (storeOf w m) || not (scratchListed v n) ≡ false) × (isUnsound (storeOf w m) ≡ false) × (malformed w queryMost hs ≡ false) × (beyond ≡ false)
+    four = none-of (isUnlisted (storeOf w m) || not (scratchListed v n)) (isUnsound (storeOf w m)) (malformed w queryMost hs) beyond e
 
 module _ (S : Scheme) (m : Words) (q : Query S) (w2 : 2 ≤ S .width) where
   -- the number of one of the four, if one applies
@@ -99,16 +99,12 @@ module _ (S : Scheme) (m : Words) (q : Query S) (w2 : 2 ≤ S .width) where
   early = earlyRefusal (S .width) (S .voteWords) m (q .scratch) (q .words) (S .beyond (q .ask))
 
   pub refused-early : (early ≡ 0 → ⊥) → runQuery S m q ≡ (refused early, m)
-  unfolding earlyRefusal earlyTests number runQuery queryStep queryTests scratchListed wholeVotes
+  unfolding earlyRefusal earlyTests number runQuery queryStep queryTests
   refused-early ne =
       ap (λ (o : Option ℕ). onWords (S .width) m (outcome o (storeOf (S .width) m) (answerOf (bestOf S q (catalog (content (storeOf (S .width) m))))) (storeOf (S .width) m)))
-      (first-of (isUnlisted (storeOf (S .width) m) || not (wholeVotes (S .voteWords) (q .scratch))) (isUnsound (storeOf (S .width) m)) (malformed (S .width) queryMost (q .words)) (S .beyond (q .ask))
+      (first-of (isUnlisted (storeOf (S .width) m) || not (scratchListed (S .voteWords) (q .scratch))) (isUnsound (storeOf (S .width) m)) (malformed (S .width) queryMost (q .words)) (S .beyond (q .ask))
       (tooManyVotes S q (catalog (content (storeOf (S .width) m)))) ne)
       ∙ ap (λ (y : Words). (refused early, y)) (store-again (S .width) m w2)
-
-  scratch-listed : wholeVotes (S .voteWords) (q .scratch) ≡ true → scratchListed S q ≡ true
-  unfolding scratchListed wholeVotes
-  scratch-listed e = e
 
   -- where none of the four applies, the fifth decides
   pub query-is : early ≡ 0
@@ -116,7 +112,7 @@ module _ (S : Scheme) (m : Words) (q : Query S) (w2 : 2 ≤ S .width) where
   unfolding runQuery queryStep queryTests
   query-is e =
       let P = passed (S .width) (S .voteWords) m (q .scratch) (q .words) (S .beyond (q .ask)) e in
-      rw (store-holds (S .width) m (P .is-listed) (P .is-sound), scratch-listed (P .whole), P .formed, P .within)
+      rw (store-holds (S .width) m (P .is-listed) (P .is-sound), P .whole, P .formed, P .within)
       (last (P .is-listed) (P .is-sound) (tooManyVotes S q (catalog (readIndex (S .width) m))) (answerOf (bestOf S q (catalog (readIndex (S .width) m)))))
     where
       last : slicesListed (S .width) m ≡ true → soundWords (S .width) m ≡ true → (b : Bool) (a : Answer)

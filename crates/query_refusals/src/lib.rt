@@ -1,8 +1,9 @@
 // The refusals of a query that come before its votes are counted: 1 to 4, of either index.
 ghost use mathlib.Core.Path.{_≡_};
 ghost use Prim.Native.Nat.{_≤_};
+ghost use Rattle.model.specs.Calls.{scratchListed};
 ghost use Rattle.soundness.specs.Scan.{words};
-ghost use Rattle.query_refusals.specs.Early.{wholeVotes, earlyRefusal};
+ghost use Rattle.query_refusals.specs.Early.{earlyRefusal};
 
 // The most hashes that a query has.
 const QUERY_MOST: usize = 2048;
@@ -13,7 +14,7 @@ const VOTES_MOST: usize = 1_000_000;
 // Whether n words are whole votes of v words, and not too many.
 fn is_whole(n: usize, v: usize) -> bool
     requires { ⌜ 1 ≤ v ⌝ }
-    ensures { λ r. ⌜ r ≡ wholeVotes v n ⌝ }
+    ensures { λ r. ⌜ r ≡ scratchListed v n ⌝ }
 {
     if n % v != 0 {
         return false;

@@ -18,7 +18,7 @@ use Rattle.lists.proofs.Entries.{length-entries}
 use Rattle.model.specs.Rows.{Row, noRate}
 use Rattle.model.specs.Index.{Posting, Index, withoutId, erased}
 use Rattle.model.specs.Calls.{Sizes}
-use Rattle.model.specs.Words.{rowWords, rowEntries, postingWords, write}
+use Rattle.model.specs.Words.{rowWords, rowEntries, postingWords, write, headWidth, rowWidth}
 use Rattle.model.proofs.Words.{WidePostings, wide-rows, length-rows, row-at, wide-postings, written-postings}
 use Rattle.model.proofs.Written.{entry-word-is}
 use Rattle.postings.specs.Retain.{unnamed, staying, retained}
@@ -30,7 +30,7 @@ use Rattle.remove.specs.Erasing.{vacated}
 
 -- references that are laid out, with zeros behind the rows
 unused : Sizes → List (List ℕ) → List ℕ
-unused z es = replicate (4 + 4 * z .R - suc (suc (suc (suc (length (flat es)))))) 0
+unused z es = replicate (headWidth + rowWidth * z .R - suc (suc (suc (suc (length (flat es)))))) 0
 
 references-are : (w : ℕ) (z : Sizes) (x : Index)
     → write w z x .references ≡ headed (length (x .rows)) (length (x .vacant)) (length (x .postings)) (length (x .stopped)) (rowEntries (x .rows) (x .vacant)) (unused z (rowEntries (x .rows) (x .vacant)))
@@ -60,13 +60,13 @@ module _ (os : List (Option Row)) (es : List ℕ) (id : ℕ) (here : id < length
 
   same-size : length (flat (rowEntries dead (es ++ id ∷ []))) ≡ length (flat (rowEntries os es))
   same-size =
-      length-flat 4 (rowEntries dead (es ++ id ∷ [])) (wide-rows dead (es ++ id ∷ []))
+      length-flat rowWidth (rowEntries dead (es ++ id ∷ [])) (wide-rows dead (es ++ id ∷ []))
       ∙ rw (length-rows dead (es ++ id ∷ []), long, ← length-rows os es)
-      (sym (length-flat 4 (rowEntries os es) (wide-rows os es)))
+      (sym (length-flat rowWidth (rowEntries os es) (wide-rows os es)))
 
 -- the header, a row and a vacant entry written
-vacated-headed : (n v p k : ℕ) (es : List (List ℕ)) (rest : List ℕ) (id held : ℕ) → Wide 4 es → id < length es → v < length es
-    → (fs : List (List ℕ)) → set es id (noRate ∷ 0 ∷ 0 ∷ getD (getD es id []) 3 0 ∷ []) ≡ fs → Wide 4 fs → length fs ≡ length es
+vacated-headed : (n v p k : ℕ) (es : List (List ℕ)) (rest : List ℕ) (id held : ℕ) → Wide rowWidth es → id < length es → v < length es
+    → (fs : List (List ℕ)) → set es id (noRate ∷ 0 ∷ 0 ∷ getD (getD es id []) 3 0 ∷ []) ≡ fs → Wide rowWidth fs → length fs ≡ length es
     → vacated (headed n v p k es rest) id held ≡ headed n (v + 1) held k (set fs v (set (getD fs v []) 3 id)) rest
 unfolding vacated headed
 vacated-headed n v p k es rest id held h here room fs e g long =

@@ -16,7 +16,7 @@ use Rattle.lists.proofs.Every.{count-lt}
 use Rattle.lists.proofs.Entries.{length-read, read-at}
 use Rattle.model.specs.Index.{Index, isLive, withoutId, erased}
 use Rattle.model.specs.Calls.{Sizes, count as counted, removed, refused, plainTests, countStep, removeStep}
-use Rattle.model.specs.Words.{Words, sizesOf, sizesListed, between, slicesListed, write, readRow, readVacant, readPosting, readIndex}
+use Rattle.model.specs.Words.{Words, sizesOf, sizesListed, between, slicesListed, write, readRow, readVacant, readPosting, readIndex, headWidth, rowWidth, atLive}
 use Rattle.model.specs.Sound.{Sound}
 use Rattle.model.specs.Soundness.{deadRow, liveId, soundWords}
 use Rattle.model.proofs.Facts.{Facts, live-id, not-dead}
@@ -66,11 +66,11 @@ module _ (w : ℕ) (rs ps ss : List ℕ) (w3 : 3 ≤ w) (l : slicesListed w (wor
 
   many-rows : length (x .rows) ≡ getD rs 0 0
   unfolding readIndex
-  many-rows = length-read readRow 4 (getD rs 0 0) (drop 4 rs)
+  many-rows = length-read readRow rowWidth (getD rs 0 0) (drop headWidth rs)
 
   many-vacant : length (x .vacant) ≡ getD rs 1 0
   unfolding readIndex
-  many-vacant = length-read readVacant 4 (getD rs 1 0) (drop 4 rs)
+  many-vacant = length-read readVacant rowWidth (getD rs 1 0) (drop headWidth rs)
 
   many-postings : length (x .postings) ≡ getD rs 2 0
   unfolding readIndex
@@ -83,10 +83,10 @@ module _ (w : ℕ) (rs ps ss : List ℕ) (w3 : 3 ≤ w) (l : slicesListed w (wor
   pub vacant-few : getD rs 1 0 ≤ getD rs 0 0
   vacant-few = facts-are .vacant-fit
 
-  pub header-there : 4 ≤ length rs
+  pub header-there : headWidth ≤ length rs
   header-there = omega (arith, references-long w m w2 l)
 
-  pub rows-there : 4 * getD rs 0 0 + 4 ≤ length rs
+  pub rows-there : headWidth + rowWidth * getD rs 0 0 ≤ length rs
   rows-there = omega (arith, references-long w m w2 l, facts-are .rows-fit)
 
   -- is the recording live?
@@ -94,11 +94,11 @@ module _ (w : ℕ) (rs ps ss : List ℕ) (w3 : 3 ≤ w) (l : slicesListed w (wor
   unfolding readIndex liveId
   live-is id = ⊎-elim
       (λ (h : getD rs 0 0 ≤ id).
-      let past : length (map readRow (entries 4 (getD rs 0 0) (drop 4 rs))) ≤ id = omega (arith, length-read readRow 4 (getD rs 0 0) (drop 4 rs)) in
-      rw (List·getD-eq-default (map readRow (entries 4 (getD rs 0 0) (drop 4 rs))) none past, le-ltb id (getD rs 0 0) h))
+      let past : length (map readRow (entries rowWidth (getD rs 0 0) (drop headWidth rs))) ≤ id = omega (arith, length-read readRow rowWidth (getD rs 0 0) (drop headWidth rs)) in
+      rw (List·getD-eq-default (map readRow (entries rowWidth (getD rs 0 0) (drop headWidth rs))) none past, le-ltb id (getD rs 0 0) h))
       (λ (h : id < getD rs 0 0).
-      rw (read-at readRow 4 (getD rs 0 0) (drop 4 rs) none id h, lt-ltb id (getD rs 0 0) h)
-      (is-live (entryAt 4 id (drop 4 rs)) ∙ rw (row-word rs id 2 (omega arith))))
+      rw (read-at readRow rowWidth (getD rs 0 0) (drop headWidth rs) none id h, lt-ltb id (getD rs 0 0) h)
+      (is-live (entryAt rowWidth id (drop headWidth rs)) ∙ rw (row-word rs id atLive (omega arith))))
       (le-or-lt (getD rs 0 0) id)
 
   pub remove-dead : (id : ℕ) → liveId rs (getD rs 0 0) id ≡ false → runRemove w (words rs ps ss) id ≡ (removed false, words rs ps ss)

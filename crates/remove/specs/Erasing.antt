@@ -3,6 +3,7 @@ use mathlib.Core.List.{List, [], _∷_}
 use Prim.Native.Nat.{ℕ, _+_, _*_, _≤_, _<_}
 use lib.ListN.{length, getD}
 use Rattle.model.specs.Rows.{noRate}
+use Rattle.model.specs.Words.{headWidth, rowWidth}
 use Rattle.rows.specs.References.{headerPut, rowPut, entryPut}
 use Rattle.postings.specs.Retain.{staying, retained}
 
@@ -22,6 +23,6 @@ pub record Erasable (w : ℕ) (rs ps : List ℕ) (id : ℕ) : Type 0 where
   pub wide : 3 ≤ w
   pub held : w * getD rs 2 0 ≤ length ps
   pub few : getD rs 2 0 ≤ 1048576
-  pub here : 4 * id + 8 ≤ length rs
-  pub next : 4 * getD rs 1 0 + 8 ≤ length rs
+  pub here : headWidth + rowWidth * (id + 1) ≤ length rs
+  pub next : headWidth + rowWidth * (getD rs 1 0 + 1) ≤ length rs
   pub some : getD rs 1 0 < 4096

@@ -4,13 +4,15 @@ ghost use Prim.Native.Nat.{_+_, _*_, _≤_};
 ghost use lib.ListN.{length, getD};
 ghost use Rattle.model.specs.Soundness.{liveId};
 ghost use Rattle.model.specs.Run.{runCount, runRemove};
-ghost use Rattle.soundness.specs.Scan.{lent};
+ghost use Rattle.soundness.specs.Scan.{lent, words};
+ghost use Rattle.model.specs.Words.{headWidth, rowWidth};
 ghost use Rattle.remove.specs.Answers.{countAnswer, removalAnswer};
 ghost use Rattle.remove.specs.Erasing.{vacated, others, othersLeft, Erasable};
 use postings::at;
+use rows::AT_LIVE;
+use rows::NO_RATE;
 use rows::row_word;
 use rows::size;
-use soundness::NO_RATE;
 use soundness::refusal_of;
 
 pub enum LiveCount {
@@ -38,19 +40,19 @@ pub fn live_count(refs: &[u32], posts: &[u32], stops: &[u32], w: usize) -> LiveC
 
 // Whether id is live.
 fn is_live(refs: &[u32], id: u32) -> bool
-    requires { ⌜ (4 ≤ length (now refs)) × (4 * getD (now refs) 0 0 + 4 ≤ length (now refs)) ⌝ }
+    requires { ⌜ (headWidth ≤ length (now refs)) × (headWidth + rowWidth * getD (now refs) 0 0 ≤ length (now refs)) ⌝ }
     ensures { λ r. ⌜ r ≡ liveId (now (refs .entry)) (getD (now (refs .entry)) 0 0) id ⌝ }
 {
     let j = size(id);
     if size(at(refs, 0)) <= j {
         return false;
     }
-    row_word(refs, j, 2) == 1
+    row_word(refs, j, AT_LIVE) == 1
 }
 
 // Row id becomes dead and id the last of the vacant entries; `held` postings are left.
 fn vacate(refs: &mut [u32], id: u32, held: u32)
-    requires { ⌜ (4 * id + 8 ≤ length (now refs)) × (4 * getD (now refs) 1 0 + 8 ≤ length (now refs)) × (getD (now refs) 1 0 ≤ 4096) ⌝ }
+    requires { ⌜ (headWidth + rowWidth * (id + 1) ≤ length (now refs)) × (headWidth + rowWidth * (getD (now refs) 1 0 + 1) ≤ length (now refs)) × (getD (now refs) 1 0 ≤ 4096) ⌝ }
     ensures { λ _. ⌜ now (refs .exit) ≡ vacated (now (refs .entry)) id held ⌝ }
 {
     let n = refs[0];

@@ -11,10 +11,10 @@ use Rattle.lists.specs.Lists.{flat}
 use Rattle.lists.specs.Entries.{Wide}
 use Rattle.lists.proofs.Keep.{all-at, all-set}
 use Rattle.model.specs.Rows.{Row}
-use Rattle.model.specs.Words.{rowWords, rowEntries}
+use Rattle.model.specs.Words.{rowWords, rowEntries, headWidth, rowWidth, rowPlace, atRate, atRmax, atLive, atVacant}
 use Rattle.rows.specs.References.{headerPut, rowPut, entryPut, headed}
 
-pub header-again : (rs : List ℕ) (n v p k : ℕ) → 4 ≤ length rs → set (set (set (set rs 0 n) 1 v) 2 p) 3 k ≡ headerPut rs n v p k
+pub header-again : (rs : List ℕ) (n v p k : ℕ) → headWidth ≤ length rs → set (set (set (set rs 0 n) 1 v) 2 p) 3 k ≡ headerPut rs n v p k
 unfolding headerPut
 header-again [] n v p k h = absurd (omega arith)
 header-again (a ∷ []) n v p k h = absurd (omega arith)
@@ -43,43 +43,43 @@ flat-set w (e ∷ es) rest (suc j) f a h l g =
     rw (z, append-assoc e (flat es) rest)
     (set-behind e (flat es ++ rest) (w * j + f) a ∙ ap (λ (l : List ℕ). e ++ l) ih ∙ sym (append-assoc e (flat (set es j (set (getD es j []) f a))) rest))
 
-word-headed : (n v p k : ℕ) (es : List (List ℕ)) (rest : List ℕ) (j f a : ℕ) → Wide 4 es → j < length es → f < 4
-    → set (headed n v p k es rest) (4 * j + (4 + f)) a ≡ headed n v p k (set es j (set (getD es j []) f a)) rest
+word-headed : (n v p k : ℕ) (es : List (List ℕ)) (rest : List ℕ) (j f a : ℕ) → Wide rowWidth es → j < length es → f < rowWidth
+    → set (headed n v p k es rest) (rowPlace j f) a ≡ headed n v p k (set es j (set (getD es j []) f a)) rest
 unfolding headed
 word-headed n v p k es rest j f a h l g =
-    let e : 4 * j + (4 + f) ≡ suc (suc (suc (suc (4 * j + f)))) = omega arith in
-    rw e (ap (λ (l : List ℕ). n ∷ v ∷ p ∷ k ∷ l) (flat-set 4 es rest j f a h l g))
+    let e : rowPlace j f ≡ suc (suc (suc (suc (rowWidth * j + f)))) = omega arith in
+    rw e (ap (λ (l : List ℕ). n ∷ v ∷ p ∷ k ∷ l) (flat-set rowWidth es rest j f a h l g))
 
 module _ (n v p k : ℕ) (es : List (List ℕ)) (rest : List ℕ) where
   pub header-headed : (n′ v′ p′ k′ : ℕ) → headerPut (headed n v p k es rest) n′ v′ p′ k′ ≡ headed n′ v′ p′ k′ es rest
   unfolding headerPut headed
   header-headed n′ v′ p′ k′ = refl
 
-  pub entry-headed : (i id : ℕ) → Wide 4 es → i < length es
-      → entryPut (headed n v p k es rest) i id ≡ headed n v p k (set es i (set (getD es i []) 3 id)) rest
+  pub entry-headed : (i id : ℕ) → Wide rowWidth es → i < length es
+      → entryPut (headed n v p k es rest) i id ≡ headed n v p k (set es i (set (getD es i []) atVacant id)) rest
   unfolding entryPut
-  entry-headed i id h l = word-headed n v p k es rest i 3 id h l (omega arith)
+  entry-headed i id h l = word-headed n v p k es rest i atVacant id h l (omega arith)
 
   -- a word of row j, where the row was written before
-  again : (j f a : ℕ) (e : List ℕ) → Wide 4 es → j < length es → length e ≡ 4 → f < 4
-      → set (headed n v p k (set es j e) rest) (4 * j + (4 + f)) a ≡ headed n v p k (set es j (set e f a)) rest
+  again : (j f a : ℕ) (e : List ℕ) → Wide rowWidth es → j < length es → length e ≡ rowWidth → f < rowWidth
+      → set (headed n v p k (set es j e) rest) (rowPlace j f) a ≡ headed n v p k (set es j (set e f a)) rest
   again j f a e h l four g =
-      word-headed n v p k (set es j e) rest j f a (all-set (λ (e : List ℕ). length e ≡ 4) es j e four h) (simp length-set l) g
+      word-headed n v p k (set es j e) rest j f a (all-set (λ (e : List ℕ). length e ≡ rowWidth) es j e four h) (simp length-set l) g
       ∙ rw (getD-set-same es j e [] l, set-set es j e (set e f a))
 
   -- rate bits, r_max and live of row j; its vacant entry stays
-  pub row-headed : (j rate rmax live : ℕ) → Wide 4 es → j < length es
-      → rowPut (headed n v p k es rest) j rate rmax live ≡ headed n v p k (set es j (rate ∷ rmax ∷ live ∷ getD (getD es j []) 3 0 ∷ [])) rest
+  pub row-headed : (j rate rmax live : ℕ) → Wide rowWidth es → j < length es
+      → rowPut (headed n v p k es rest) j rate rmax live ≡ headed n v p k (set es j (rate ∷ rmax ∷ live ∷ getD (getD es j []) atVacant 0 ∷ [])) rest
   unfolding rowPut
   row-headed j rate rmax live h l =
       let e = getD es j [] in
-      let four = all-at (λ (e : List ℕ). length e ≡ 4) es [] h j l in
-      ap (λ (l : List ℕ). set (set l (4 * j + 5) rmax) (4 * j + 6) live) (word-headed n v p k es rest j 0 rate h l (omega arith))
-      ∙ ap (λ (l : List ℕ). set l (4 * j + 6) live) (again j 1 rmax (set e 0 rate) h l (simp length-set four) (omega arith))
-      ∙ again j 2 live (set (set e 0 rate) 1 rmax) h l (simp length-set four) (omega arith)
+      let four = all-at (λ (e : List ℕ). length e ≡ rowWidth) es [] h j l in
+      ap (λ (l : List ℕ). set (set l (rowPlace j atRmax) rmax) (rowPlace j atLive) live) (word-headed n v p k es rest j atRate rate h l (omega arith))
+      ∙ ap (λ (l : List ℕ). set l (rowPlace j atLive) live) (again j atRmax rmax (set e 0 rate) h l (simp length-set four) (omega arith))
+      ∙ again j atLive live (set (set e 0 rate) 1 rmax) h l (simp length-set four) (omega arith)
       ∙ ap (λ (e : List ℕ). headed n v p k (set es j e) rest) (whole e four)
     where
-      whole : (e : List ℕ) → length e ≡ 4 → set (set (set e 0 rate) 1 rmax) 2 live ≡ rate ∷ rmax ∷ live ∷ getD e 3 0 ∷ []
+      whole : (e : List ℕ) → length e ≡ rowWidth → set (set (set e 0 rate) 1 rmax) 2 live ≡ rate ∷ rmax ∷ live ∷ getD e 3 0 ∷ []
       whole [] z = absurd (omega arith)
       whole (a ∷ []) z = absurd (omega arith)
       whole (a ∷ b ∷ []) z = absurd (omega arith)

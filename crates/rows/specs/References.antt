@@ -5,6 +5,7 @@ use mathlib.Core.List.{List, _∷_, _++_}
 use Prim.Native.Nat.{ℕ, _+_, _*_}
 use lib.ListN.{getD, drop, set}
 use Rattle.lists.specs.Lists.{flat}
+use Rattle.model.specs.Words.{headWidth, rowPlace, atRate, atRmax, atLive, atVacant}
 use Rattle.rows.specs.declared.Counts.{Counts}
 
 pub record CountsOf (rs : List ℕ) (h : Counts) : Type 0 where
@@ -15,16 +16,16 @@ pub record CountsOf (rs : List ℕ) (h : Counts) : Type 0 where
 
 -- the first four words anew
 unfoldable pub headerPut : List ℕ → ℕ → ℕ → ℕ → ℕ → List ℕ
-headerPut rs n v p k = n ∷ v ∷ p ∷ k ∷ drop 4 rs
+headerPut rs n v p k = n ∷ v ∷ p ∷ k ∷ drop headWidth rs
 
 -- rate bits, r_max and live of row j anew
 unfoldable pub rowPut : List ℕ → ℕ → ℕ → ℕ → ℕ → List ℕ
-rowPut rs j rate rmax live = set (set (set rs (4 * j + 4) rate) (4 * j + 5) rmax) (4 * j + 6) live
+rowPut rs j rate rmax live = set (set (set rs (rowPlace j atRate) rate) (rowPlace j atRmax) rmax) (rowPlace j atLive) live
 
 -- vacant entry i anew
 unfoldable pub entryPut : List ℕ → ℕ → ℕ → List ℕ
-entryPut rs i id = set rs (4 * i + 7) id
+entryPut rs i id = set rs (rowPlace i atVacant) id
 
--- a header, rows of four words each, and what stands behind them
+-- a header, rows, and what stands behind them
 unfoldable pub headed : ℕ → ℕ → ℕ → ℕ → List (List ℕ) → List ℕ → List ℕ
 headed n v p k es rest = n ∷ v ∷ p ∷ k ∷ (flat es ++ rest)

@@ -3,12 +3,24 @@ ghost use mathlib.Core.Path.{_≡_};
 ghost use mathlib.Core.Bool.{cond};
 ghost use mathlib.Core.List.{map};
 ghost use Prim.Native.Nat.{_+_, _*_, _<_, _≤_, max};
-ghost use lib.ListN.{length};
+ghost use lib.ListN.{length, set};
 ghost use Rattle.lists.specs.Entries.{entries};
 ghost use Rattle.model.specs.Fingerprints.{hashOf, hashesOf, malformed};
 ghost use Rattle.model.specs.Rows.{hasRmax, largestAnchor, canonical};
 ghost use Rattle.model.specs.Soundness.{rowWord};
+ghost use Rattle.model.specs.Words.{headWidth, rowWidth, rowPlace};
 ghost use Rattle.rows.specs.References.{CountsOf, headerPut, rowPut, entryPut};
+
+// "4 words (rows n, vacant v, postings p, stopped k), then R rows of 4 words: rate bits, r_max, live (1 or 0), vacant entry"
+pub const HEAD_WIDTH: usize = 4;
+pub const ROW_WIDTH: usize = 4;
+pub const AT_RATE: usize = 0;
+pub const AT_RMAX: usize = 1;
+pub const AT_LIVE: usize = 2;
+pub const AT_VACANT: usize = 3;
+
+// The rate of a dead row, and of a live one that is a NaN.
+pub const NO_RATE: u32 = 0x7FC0_0000;
 
 // What of the store is in use: rows, vacant entries, postings and stopped keys.
 pub struct Counts {
@@ -26,7 +38,7 @@ pub fn size(x: u32) -> usize
 
 // The first four words.
 pub fn header(refs: &[u32]) -> Counts
-    requires { ⌜ 4 ≤ length (now refs) ⌝ }
+    requires { ⌜ headWidth ≤ length (now refs) ⌝ }
     ensures { λ h. ⌜ CountsOf (now (refs .entry)) h ⌝ }
 {
     Counts {
@@ -39,7 +51,7 @@ pub fn header(refs: &[u32]) -> Counts
 
 // Writes the first four words.
 pub fn put_header(refs: &mut [u32], n: u32, v: u32, p: u32, k: u32)
-    requires { ⌜ 4 ≤ length (now refs) ⌝ }
+    requires { ⌜ headWidth ≤ length (now refs) ⌝ }
     ensures { λ _. ⌜ now (refs .exit) ≡ headerPut (now (refs .entry)) n v p k ⌝ }
 {
     refs[0] = n;
@@ -48,31 +60,38 @@ pub fn put_header(refs: &mut [u32], n: u32, v: u32, p: u32, k: u32)
     refs[3] = k;
 }
 
-// Word f of row j: 0 rate bits, 1 r_max, 2 live, 3 vacant entry.
+// Word f of row j.
 pub fn row_word(refs: &[u32], j: usize, f: usize) -> u32
-    requires { ⌜ 4 * j + (4 + f) < length (now refs) ⌝ }
+    requires { ⌜ rowPlace j f < length (now refs) ⌝ }
     ensures { λ r. ⌜ r ≡ rowWord (now (refs .entry)) j f ⌝ }
 {
-    refs[4 * j + (4 + f)]
+    refs[ROW_WIDTH * j + (HEAD_WIDTH + f)]
+}
+
+// Writes word f of row j.
+fn put_word(refs: &mut [u32], j: usize, f: usize, x: u32)
+    requires { ⌜ rowPlace j f < length (now refs) ⌝ }
+    ensures { λ _. ⌜ now (refs .exit) ≡ set (now (refs .entry)) (rowPlace j f) x ⌝ }
+{
+    refs[ROW_WIDTH * j + (HEAD_WIDTH + f)] = x;
 }
 
 // Writes row j but for its vacant entry.
 pub fn put_row(refs: &mut [u32], j: usize, rate: u32, rmax: u32, live: u32)
-    requires { ⌜ 4 * j + 8 ≤ length (now refs) ⌝ }
+    requires { ⌜ headWidth + rowWidth * (j + 1) ≤ length (now refs) ⌝ }
     ensures { λ _. ⌜ now (refs .exit) ≡ rowPut (now (refs .entry)) j rate rmax live ⌝ }
 {
-    let a = 4 * j + 4;
-    refs[a] = rate;
-    refs[a + 1] = rmax;
-    refs[a + 2] = live;
+    put_word(refs, j, AT_RATE, rate);
+    put_word(refs, j, AT_RMAX, rmax);
+    put_word(refs, j, AT_LIVE, live);
 }
 
 // Writes vacant entry i.
 pub fn put_entry(refs: &mut [u32], i: usize, id: u32)
-    requires { ⌜ 4 * i + 8 ≤ length (now refs) ⌝ }
+    requires { ⌜ headWidth + rowWidth * (i + 1) ≤ length (now refs) ⌝ }
     ensures { λ _. ⌜ now (refs .exit) ≡ entryPut (now (refs .entry)) i id ⌝ }
 {
-    refs[4 * i + 7] = id;
+    put_word(refs, i, AT_VACANT, id);
 }
 
 // A NaN's word becomes the one word that a store has for it.
@@ -80,7 +99,7 @@ pub fn canonical_rate(rate: u32) -> u32
     ensures { λ r. ⌜ r ≡ canonical rate ⌝ }
 {
     if 0x7F80_0000 < rate % 0x8000_0000 {
-        return 0x7FC0_0000;
+        return NO_RATE;
     }
     rate
 }

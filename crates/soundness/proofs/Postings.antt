@@ -11,6 +11,7 @@ use Rattle.lists.specs.Every.{every}
 use Rattle.lists.specs.Entries.{keyAt, keysAscend}
 use Rattle.lists.proofs.Every.{every-none, every-more, every-fail}
 use Rattle.model.specs.Soundness.{rowWord, postingWord, liveId, postingLive, anchorFine}
+use Rattle.model.specs.Words.{atRmax, atLive}
 use Rattle.soundness.specs.Scan.{entryFine, lastKey}
 
 -- the keys of the first i postings ascend, and the last of them is `last`
@@ -53,14 +54,14 @@ module _ (w : ℕ) (rs : List ℕ) (n : ℕ) (ps : List ℕ) (i : ℕ) {id : ℕ
   unfolding entryFine postingLive liveId
   entry-out h = rw (← e, le-ltb id n h)
 
-  pub entry-dead : id < n → (rowWord rs id 2 ≡ 1 → ⊥) → entryFine w rs n ps i ≡ false
+  pub entry-dead : id < n → (rowWord rs id atLive ≡ 1 → ⊥) → entryFine w rs n ps i ≡ false
   unfolding entryFine postingLive liveId
-  entry-dead h d = rw (← e, lt-ltb id n h, ne-eqb (rowWord rs id 2) 1 d)
+  entry-dead h d = rw (← e, lt-ltb id n h, ne-eqb (rowWord rs id atLive) 1 d)
 
-  pub entry-other : id < n → rowWord rs id 2 ≡ 1 → (w ≡ 3 → ⊥) → entryFine w rs n ps i ≡ true
+  pub entry-other : id < n → rowWord rs id atLive ≡ 1 → (w ≡ 3 → ⊥) → entryFine w rs n ps i ≡ true
   unfolding entryFine postingLive liveId anchorFine
-  entry-other h d o = rw (← e, lt-ltb id n h, eq-eqb (rowWord rs id 2) 1 d, ne-eqb w 3 o)
+  entry-other h d o = rw (← e, lt-ltb id n h, eq-eqb (rowWord rs id atLive) 1 d, ne-eqb w 3 o)
 
-  pub entry-wang : id < n → rowWord rs id 2 ≡ 1 → w ≡ 3 → entryFine w rs n ps i ≡ leb (postingWord ps w i 2) (rowWord rs id 1)
+  pub entry-wang : id < n → rowWord rs id atLive ≡ 1 → w ≡ 3 → entryFine w rs n ps i ≡ leb (postingWord ps w i 2) (rowWord rs id atRmax)
   unfolding entryFine postingLive liveId anchorFine
-  entry-wang h d o = rw (← e, lt-ltb id n h, eq-eqb (rowWord rs id 2) 1 d, eq-eqb w 3 o)
+  entry-wang h d o = rw (← e, lt-ltb id n h, eq-eqb (rowWord rs id atLive) 1 d, eq-eqb w 3 o)

@@ -13,6 +13,7 @@ use Rattle.lists.specs.Entries.{zeroWord}
 use Rattle.lists.proofs.Tests.{test}
 use Rattle.model.specs.Rows.{hasRmax, noRate, isCanonical}
 use Rattle.model.specs.Soundness.{rowWord, liveWord, deadFine, rateFine, rmaxFine, deadRow, entryUnused}
+use Rattle.model.specs.Words.{atRate, atRmax, atLive, atVacant}
 use Rattle.soundness.specs.Scan.{rowTest, rowFine}
 
 -- "a live NaN rate is stored as that word"
@@ -34,9 +35,9 @@ canonical-test rate d = rw (ne-eqb rate noRate d, nanBits-above binary32 rate) (
         (λ e. rw (e, lt-ltb b a (leb-false a b e)))
 
 -- the four conditions on a row, from its words
-pub row-fine : (w : ℕ) (rs : List ℕ) (j : ℕ) → rowTest w (rowWord rs j 0) (rowWord rs j 1) (rowWord rs j 2) ≡ rowFine w rs j
+pub row-fine : (w : ℕ) (rs : List ℕ) (j : ℕ) → rowTest w (rowWord rs j atRate) (rowWord rs j atRmax) (rowWord rs j atLive) ≡ rowFine w rs j
 unfolding rowTest rowFine liveWord deadFine rateFine rmaxFine deadRow
-row-fine w rs j = same (leb (rowWord rs j 2) 1) (eqb (rowWord rs j 2) 0) (eqb (rowWord rs j 0) noRate) (eqb (rowWord rs j 1) 0) (isCanonical (rowWord rs j 0)) (hasRmax w)
+row-fine w rs j = same (leb (rowWord rs j atLive) 1) (eqb (rowWord rs j atLive) 0) (eqb (rowWord rs j atRate) noRate) (eqb (rowWord rs j atRmax) 0) (isCanonical (rowWord rs j atRate)) (hasRmax w)
   where
     same : (live dead none nought fine wang : Bool)
         → live && cond dead (none && nought) (fine && (wang || nought)) ≡ live && ((not dead || (none && nought)) && ((dead || fine) && (wang || nought)))
@@ -60,10 +61,10 @@ module _ (s : List ℕ) (a i : ℕ) (h : a ≤ i) where
   unfolding zeroWord
   zero-no e = rw here (ne-eqb (getD s i 0) 0 e)
 
-  pub unused-yes : rowWord s i 3 ≡ 0 → entryUnused s a (i - a) ≡ true
+  pub unused-yes : rowWord s i atVacant ≡ 0 → entryUnused s a (i - a) ≡ true
   unfolding entryUnused
-  unused-yes e = rw here (eq-eqb (rowWord s i 3) 0 e)
+  unused-yes e = rw here (eq-eqb (rowWord s i atVacant) 0 e)
 
-  pub unused-no : (rowWord s i 3 ≡ 0 → ⊥) → entryUnused s a (i - a) ≡ false
+  pub unused-no : (rowWord s i atVacant ≡ 0 → ⊥) → entryUnused s a (i - a) ≡ false
   unfolding entryUnused
-  unused-no e = rw here (ne-eqb (rowWord s i 3) 0 e)
+  unused-no e = rw here (ne-eqb (rowWord s i atVacant) 0 e)

@@ -13,16 +13,10 @@ use Rattle.lists.specs.Entries.{keysAscend, zeroFrom}
 use Rattle.lists.proofs.Tests.{and-left, and-right, yes-and, no-and, both-true, both-ways, all-true-at, all-more, all-none}
 use Rattle.lists.proofs.Every.{every-and}
 use Rattle.model.specs.Calls.{Sizes}
-use Rattle.model.specs.Words.{sizesOf, sizesListed, between, slicesListed}
+use Rattle.model.specs.Words.{roomIn, sizesOf, sizesListed, between, slicesListed, headWidth, rowWidth}
 use Rattle.model.specs.Soundness.{countsFit, liveWord, stoppedStep, deadRow, vacantEntry, deadFine, rateFine, postingLive, anchorFine, rmaxFine, keyUnstopped, entryUnused, soundTests, soundWords}
 use Rattle.model.proofs.Stores.{sizes-listed, references-long, postings-long}
-use Rattle.soundness.specs.Scan.{words, lengthsListed, rowFine, entryFine, rowsSound, postingsSound, stopsAscend, stoppedSound, soundAt, Fits}
-
--- ---- lengths
-
-pub listed-is : (w : ℕ) (rs ps ss : List ℕ) → lengthsListed w (length rs) (length ps) (length ss) ≡ slicesListed w (words rs ps ss)
-unfolding slicesListed lengthsListed sizesListed sizesOf
-listed-is w rs ps ss = refl
+use Rattle.soundness.specs.Scan.{words, rowFine, entryFine, rowsSound, postingsSound, stopsAscend, stoppedSound, soundAt, Fits}
 
 -- ---- several tests in one pass
 
@@ -77,7 +71,7 @@ unfolding soundAt soundTests rowsSound postingsSound stoppedSound stopsAscend
 sound-is w z rs ps ss n v p k =
     rw (rows-are w rs n, entries-are w rs n ps p)
     (order (countsFit z n v p k) (every n (liveWord rs)) (every n (deadFine rs)) (every n (rateFine rs)) (every n (rmaxFine w rs)) (eqb (count n (deadRow rs)) v)
-    (every v (vacantEntry rs n)) (every (n - v) (entryUnused rs v)) (zeroFrom rs (4 + 4 * n)) (keysAscend ps w p) (every p (postingLive w rs n ps)) (every p (anchorFine w rs ps))
+    (every v (vacantEntry rs n)) (every (n - v) (entryUnused rs v)) (zeroFrom rs (headWidth + rowWidth * n)) (keysAscend ps w p) (every p (postingLive w rs n ps)) (every p (anchorFine w rs ps))
     (zeroFrom ps (w * p)) (every (k - 1) (stoppedStep ss)) (every p (keyUnstopped w ss k ps)) (zeroFrom ss k))
 
 pub keys-up : (w : ℕ) (rs : List ℕ) (n : ℕ) (ps : List ℕ) (p : ℕ) → postingsSound w rs n ps p ≡ true → keysAscend ps w p ≡ true
@@ -94,7 +88,7 @@ module _ (w : ℕ) (rs ps ss : List ℕ) (w3 : 3 ≤ w) (l : slicesListed w (wor
   unfolding sizesListed
   most-rows = leb-true (z .R) 4096 (and-right (leb 1 (z .R)) (leb (z .R) 4096) (and-left (between 1 4096 (z .R)) _ (sizes-listed w (words rs ps ss) (omega arith) l)))
 
-  pub header-there : 4 ≤ length rs
+  pub header-there : headWidth ≤ length rs
   header-there = omega (arith, references-long w (words rs ps ss) (omega arith) l)
 
   pub counts-mean : (n v p k : ℕ) → countsFit z n v p k ≡ true → Fits w rs ps ss n v p k
@@ -119,7 +113,7 @@ module _ (w : ℕ) (rs ps ss : List ℕ) (w3 : 3 ≤ w) (l : slicesListed w (wor
 
   -- as the code has it: the room from the lengths, and the numbers in use from the first words
   abbrev room : Sizes
-  room = record { R = (length rs - 4) / 4; P = length ps / w; K = length ss }
+  room = roomIn w (length rs) (length ps) (length ss)
 
   module _ {n v p k : ℕ} (en : n ≡ getD rs 0 0) (ev : v ≡ getD rs 1 0) (ep : p ≡ getD rs 2 0) (ek : k ≡ getD rs 3 0) where
     from-words : soundWords w (words rs ps ss) ≡ soundAt w (sizesOf w (words rs ps ss)) rs ps ss n v p k

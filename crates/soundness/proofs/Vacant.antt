@@ -15,14 +15,15 @@ use Rattle.lists.proofs.Every.{every-none, every-suc, every-same}
 use Rattle.model.specs.Soundness.{rowWord, otherEntry, vacantEntry}
 use Rattle.soundness.specs.Scan.{otherThan, unnamed}
 use Rattle.model.proofs.Facts.{is-dead, not-dead}
+use Rattle.model.specs.Words.{atLive, atVacant}
 
-other-yes : (rs : List ℕ) (x i : ℕ) → (rowWord rs i 3 ≡ x → ⊥) → otherThan rs x i ≡ true
+other-yes : (rs : List ℕ) (x i : ℕ) → (rowWord rs i atVacant ≡ x → ⊥) → otherThan rs x i ≡ true
 unfolding otherThan
-other-yes rs x i h = rw (ne-eqb (rowWord rs i 3) x h)
+other-yes rs x i h = rw (ne-eqb (rowWord rs i atVacant) x h)
 
-other-no : (rs : List ℕ) (x i : ℕ) → rowWord rs i 3 ≡ x → otherThan rs x i ≡ false
+other-no : (rs : List ℕ) (x i : ℕ) → rowWord rs i atVacant ≡ x → otherThan rs x i ≡ false
 unfolding otherThan
-other-no rs x i h = rw (eq-eqb (rowWord rs i 3) x h)
+other-no rs x i h = rw (eq-eqb (rowWord rs i atVacant) x h)
 
 -- the marks after j vacant entries: 1 where one of them names the id
 pub record Marked (rs marks : List ℕ) (j : ℕ) : Type 0 where
@@ -46,7 +47,7 @@ module _ (rs marks : List ℕ) (j x : ℕ) (m : Marked rs marks j) (h : x < 4096
   pub marked-taken : (getD marks x 0 ≡ 0 → ⊥) → unnamed rs j x ≡ false
   marked-taken z = test (unnamed rs j x) (λ e. absurd (z (read true e))) (λ e. e)
 
-  pub marked-more : rowWord rs j 3 ≡ x → Marked rs (set marks x 1) (j + 1)
+  pub marked-more : rowWord rs j atVacant ≡ x → Marked rs (set marks x 1) (j + 1)
   unfolding unnamed
   marked-more e = record {
     len = simp length-set (m .len);
@@ -62,7 +63,7 @@ module _ (rs marks : List ℕ) (j x : ℕ) (m : Marked rs marks j) (h : x < 4096
           ∙ rw (add-one j, every-suc (otherThan rs y) j, other-yes rs y j (λ z. q (sym z ∙ e)), and-true)
 
 -- the test of entry j, x being what it says
-module _ (rs : List ℕ) (n j : ℕ) {x : ℕ} (e : x ≡ rowWord rs j 3) where
+module _ (rs : List ℕ) (n j : ℕ) {x : ℕ} (e : x ≡ rowWord rs j atVacant) where
   once : every j (otherEntry rs j) ≡ unnamed rs j x
   unfolding unnamed otherEntry otherThan
   once = every-same (otherEntry rs j) (otherThan rs x) j (λ i l. same i)
@@ -74,10 +75,10 @@ module _ (rs : List ℕ) (n j : ℕ) {x : ℕ} (e : x ≡ rowWord rs j 3) where
   unfolding vacantEntry
   vacant-out k = rw (← e, le-ltb x n k)
 
-  pub vacant-live : x < n → (rowWord rs x 2 ≡ 0 → ⊥) → vacantEntry rs n j ≡ false
+  pub vacant-live : x < n → (rowWord rs x atLive ≡ 0 → ⊥) → vacantEntry rs n j ≡ false
   unfolding vacantEntry
   vacant-live k d = rw (← e, lt-ltb x n k, not-dead rs x d)
 
-  pub vacant-named : (b : Bool) → x < n → rowWord rs x 2 ≡ 0 → unnamed rs j x ≡ b → vacantEntry rs n j ≡ b
+  pub vacant-named : (b : Bool) → x < n → rowWord rs x atLive ≡ 0 → unnamed rs j x ≡ b → vacantEntry rs n j ≡ b
   unfolding vacantEntry
   vacant-named b k d u = rw (← e, lt-ltb x n k, is-dead rs x d) (once ∙ u)

@@ -1,7 +1,7 @@
 -- Document 01's conditions as the scan looks at them, each pass in one test. Definitions only. Assumes nothing.
 use mathlib.Core.Bool.{Bool, cond, not, _&&_, _||_}
 use mathlib.Core.List.{List}
-use Prim.Native.Nat.{ℕ, zero, suc, _+_, _*_, _-_, _/_, _≤_}
+use Prim.Native.Nat.{ℕ, zero, suc, _+_, _*_, _-_, _≤_}
 use lib.ListN.{length}
 use lib.Dec.{eqb, leb}
 use denote.Ref.{RefT, now}
@@ -9,7 +9,7 @@ use Rattle.lists.specs.Every.{every, count}
 use Rattle.lists.specs.Entries.{keyAt, keysAscend, zeroFrom}
 use Rattle.model.specs.Rows.{hasRmax, noRate, isCanonical}
 use Rattle.model.specs.Calls.{Sizes}
-use Rattle.model.specs.Words.{Words, between, slicesListed}
+use Rattle.model.specs.Words.{Words, slicesListed, headWidth, rowWidth, atVacant}
 use Rattle.model.specs.Soundness.{rowWord, countsFit, liveWord, deadFine, rateFine, rmaxFine, deadRow, vacantEntry, entryUnused, postingLive, anchorFine, keyUnstopped, stoppedStep, soundWords}
 
 -- the three slices
@@ -19,11 +19,6 @@ words rs ps ss = record { references = rs; postings = ps; stopped = ss }
 -- the three slices that are lent, as they are at entry or at exit
 abbrev pub lent : RefT (List ℕ) → RefT (List ℕ) → RefT (List ℕ) → Words
 lent rs ps ss = words (now rs) (now ps) (now ss)
-
--- the lengths of the slices are of those listed
-unfoldable pub lengthsListed : ℕ → ℕ → ℕ → ℕ → Bool
-lengthsListed w a b c =
-    (between 1 4096 ((a - 4) / 4) && (between 1 1048576 (b / w) && between 1 65536 c)) && (eqb a (4 + 4 * ((a - 4) / 4)) && eqb b (w * (b / w)))
 
 -- a row in use, by its words
 unfoldable pub rowTest : ℕ → ℕ → ℕ → ℕ → Bool
@@ -36,7 +31,7 @@ rowFine w rs j = liveWord rs j && (deadFine rs j && (rateFine rs j && rmaxFine w
 
 -- none of the first j vacant entries is x
 unfoldable pub otherThan : List ℕ → ℕ → ℕ → Bool
-otherThan rs x i = not (eqb (rowWord rs i 3) x)
+otherThan rs x i = not (eqb (rowWord rs i atVacant) x)
 
 unfoldable pub unnamed : List ℕ → ℕ → ℕ → Bool
 unnamed rs j x = every j (otherThan rs x)
@@ -53,7 +48,7 @@ lastKey ps w (suc i) = keyAt ps w i
 -- the conditions on the references, the postings and the stopped keys
 unfoldable pub rowsSound : ℕ → List ℕ → ℕ → ℕ → Bool
 rowsSound w rs n v =
-    every n (rowFine w rs) && (eqb (count n (deadRow rs)) v && (every v (vacantEntry rs n) && (every (n - v) (entryUnused rs v) && zeroFrom rs (4 + 4 * n))))
+    every n (rowFine w rs) && (eqb (count n (deadRow rs)) v && (every v (vacantEntry rs n) && (every (n - v) (entryUnused rs v) && zeroFrom rs (headWidth + rowWidth * n))))
 
 unfoldable pub postingsSound : ℕ → List ℕ → ℕ → List ℕ → ℕ → Bool
 postingsSound w rs n ps p = (keysAscend ps w p && every p (entryFine w rs n ps)) && zeroFrom ps (w * p)
@@ -71,7 +66,7 @@ soundAt w z rs ps ss n v p k = countsFit z n v p k && (rowsSound w rs n v && (po
 pub record Fits (w : ℕ) (rs ps ss : List ℕ) (n v p k : ℕ) : Type 0 where
   pub wide : 3 ≤ w
   pub many : n ≤ 4096
-  pub rows : 4 * n + 4 ≤ length rs
+  pub rows : headWidth + rowWidth * n ≤ length rs
   pub vacant : v ≤ n
   pub postings : w * p ≤ length ps
   pub stopped : k ≤ length ss

@@ -7,16 +7,20 @@ ghost use lib.Dec.{ltb, eqb};
 ghost use Rattle.lists.specs.Every.{every, count};
 ghost use Rattle.lists.specs.Entries.{keyAt, keysAscend, zeroFrom};
 ghost use Rattle.model.specs.Rows.{isCanonical};
-ghost use Rattle.model.specs.Words.{between, slicesListed};
+ghost use Rattle.model.specs.Words.{between, lengthsListed, slicesListed, headWidth, rowWidth};
 ghost use Rattle.model.specs.Soundness.{countsFit, deadRow, vacantEntry, entryUnused, keyUnstopped, soundWords};
-ghost use Rattle.soundness.specs.Scan.{words, lengthsListed, rowTest, rowFine, entryFine, rowsSound, postingsSound, stopsAscend, stoppedSound, refusalOf, Fits};
+ghost use Rattle.soundness.specs.Scan.{words, rowTest, rowFine, entryFine, rowsSound, postingsSound, stopsAscend, stoppedSound, refusalOf, Fits};
 use postings::at;
 use postings::word;
+use rows::AT_LIVE;
+use rows::AT_RATE;
+use rows::AT_RMAX;
+use rows::AT_VACANT;
+use rows::HEAD_WIDTH;
+use rows::NO_RATE;
+use rows::ROW_WIDTH;
 use rows::row_word;
 use rows::size;
-
-// The rate of a dead row, and of a live one that is a NaN.
-pub const NO_RATE: u32 = 0x7FC0_0000;
 
 fn within(a: usize, b: usize, x: usize) -> bool
     ensures { λ r. ⌜ r ≡ between a b x ⌝ }
@@ -32,10 +36,10 @@ fn lengths_listed(a: usize, b: usize, c: usize, w: usize) -> bool
     requires { ⌜ 1 ≤ w ⌝ }
     ensures { λ r. ⌜ r ≡ lengthsListed w a b c ⌝ }
 {
-    if a < 4 {
+    if a < HEAD_WIDTH {
         return false;
     }
-    let r = (a - 4) / 4;
+    let r = (a - HEAD_WIDTH) / ROW_WIDTH;
     if !within(1, 4096, r) {
         return false;
     }
@@ -46,7 +50,7 @@ fn lengths_listed(a: usize, b: usize, c: usize, w: usize) -> bool
     if !within(1, 65536, c) {
         return false;
     }
-    if a != 4 + 4 * r {
+    if a != HEAD_WIDTH + ROW_WIDTH * r {
         return false;
     }
     b == w * p
@@ -102,16 +106,16 @@ fn row_test(w: usize, rate: u32, rmax: u32, live: u32) -> bool
 
 // Whether each row in use is fine.
 fn rows_fine(refs: &[u32], w: usize, n: usize) -> bool
-    requires { ⌜ 4 * n + 4 ≤ length (now refs) ⌝ }
+    requires { ⌜ headWidth + rowWidth * n ≤ length (now refs) ⌝ }
     ensures { λ r. ⌜ r ≡ every n (rowFine w (now (refs .entry))) ⌝ }
 {
     let mut j = 0;
     while j < n {
         if !row_test(
             w,
-            row_word(refs, j, 0),
-            row_word(refs, j, 1),
-            row_word(refs, j, 2),
+            row_word(refs, j, AT_RATE),
+            row_word(refs, j, AT_RMAX),
+            row_word(refs, j, AT_LIVE),
         ) {
             return false;
         }
@@ -122,13 +126,13 @@ fn rows_fine(refs: &[u32], w: usize, n: usize) -> bool
 
 // How many of the rows in use are dead.
 fn dead_count(refs: &[u32], n: usize) -> usize
-    requires { ⌜ 4 * n + 4 ≤ length (now refs) ⌝ }
+    requires { ⌜ headWidth + rowWidth * n ≤ length (now refs) ⌝ }
     ensures { λ r. ⌜ r ≡ count n (deadRow (now (refs .entry))) ⌝ }
 {
     let mut c = 0;
     let mut j = 0;
     while j < n {
-        if row_word(refs, j, 2) == 0 {
+        if row_word(refs, j, AT_LIVE) == 0 {
             c += 1;
             j += 1;
         } else {
@@ -140,17 +144,17 @@ fn dead_count(refs: &[u32], n: usize) -> usize
 
 // Whether each of the v vacant entries is a dead id that none before it names. The ids that were named are marked.
 fn vacants_fine(refs: &[u32], n: usize, v: usize) -> bool
-    requires { ⌜ (n ≤ 4096) × (v ≤ n) × (4 * n + 4 ≤ length (now refs)) ⌝ }
+    requires { ⌜ (n ≤ 4096) × (v ≤ n) × (headWidth + rowWidth * n ≤ length (now refs)) ⌝ }
     ensures { λ r. ⌜ r ≡ every v (vacantEntry (now (refs .entry)) n) ⌝ }
 {
     let mut marks = [0u8; 4096];
     let mut j = 0;
     while j < v {
-        let x = size(row_word(refs, j, 3));
+        let x = size(row_word(refs, j, AT_VACANT));
         if n <= x {
             return false;
         }
-        if row_word(refs, x, 2) != 0 {
+        if row_word(refs, x, AT_LIVE) != 0 {
             return false;
         }
         if marks[x] != 0 {
@@ -164,12 +168,12 @@ fn vacants_fine(refs: &[u32], n: usize, v: usize) -> bool
 
 // Whether the vacant entries behind the first v are zero, in the rows in use.
 fn entries_unused(refs: &[u32], n: usize, v: usize) -> bool
-    requires { ⌜ (v ≤ n) × (4 * n + 4 ≤ length (now refs)) ⌝ }
+    requires { ⌜ (v ≤ n) × (headWidth + rowWidth * n ≤ length (now refs)) ⌝ }
     ensures { λ r. ⌜ r ≡ every (n - v) (entryUnused (now (refs .entry)) v) ⌝ }
 {
     let mut j = v;
     while j < n {
-        if row_word(refs, j, 3) != 0 {
+        if row_word(refs, j, AT_VACANT) != 0 {
             return false;
         }
         j += 1;
@@ -196,7 +200,7 @@ fn is_zero_from(s: &[u32], a: usize) -> bool
 }
 
 fn rows_sound(refs: &[u32], w: usize, n: usize, v: usize) -> bool
-    requires { ⌜ (n ≤ 4096) × (v ≤ n) × (4 * n + 4 ≤ length (now refs)) ⌝ }
+    requires { ⌜ (n ≤ 4096) × (v ≤ n) × (headWidth + rowWidth * n ≤ length (now refs)) ⌝ }
     ensures { λ r. ⌜ r ≡ rowsSound w (now (refs .entry)) n v ⌝ }
 {
     if !rows_fine(refs, w, n) {
@@ -211,30 +215,30 @@ fn rows_sound(refs: &[u32], w: usize, n: usize, v: usize) -> bool
     if !entries_unused(refs, n, v) {
         return false;
     }
-    is_zero_from(refs, 4 + 4 * n)
+    is_zero_from(refs, HEAD_WIDTH + ROW_WIDTH * n)
 }
 
 // Whether posting i has a live id and, in a Wang store, an anchor of at most that row's r_max.
 fn entry_fine(refs: &[u32], n: usize, posts: &[u32], w: usize, i: usize) -> bool
-    requires { ⌜ (3 ≤ w) × (w * i + w ≤ length (now posts)) × (4 * n + 4 ≤ length (now refs)) ⌝ }
+    requires { ⌜ (3 ≤ w) × (w * i + w ≤ length (now posts)) × (headWidth + rowWidth * n ≤ length (now refs)) ⌝ }
     ensures { λ r. ⌜ r ≡ entryFine w (now (refs .entry)) n (now (posts .entry)) i ⌝ }
 {
     let id = size(word(posts, w, i, 1));
     if n <= id {
         return false;
     }
-    if row_word(refs, id, 2) != 1 {
+    if row_word(refs, id, AT_LIVE) != 1 {
         return false;
     }
     if w != 3 {
         return true;
     }
-    word(posts, w, i, 2) <= row_word(refs, id, 1)
+    word(posts, w, i, 2) <= row_word(refs, id, AT_RMAX)
 }
 
 // Whether the keys of the postings ascend, and each posting is fine: one pass.
 fn entries_fine(refs: &[u32], n: usize, posts: &[u32], w: usize, p: usize) -> bool
-    requires { ⌜ (3 ≤ w) × (w * p ≤ length (now posts)) × (4 * n + 4 ≤ length (now refs)) ⌝ }
+    requires { ⌜ (3 ≤ w) × (w * p ≤ length (now posts)) × (headWidth + rowWidth * n ≤ length (now refs)) ⌝ }
     ensures { λ r. ⌜ r ≡ keysAscend (now (posts .entry)) w p && every p (entryFine w (now (refs .entry)) n (now (posts .entry))) ⌝ }
 {
     let mut last = 0;
@@ -254,7 +258,7 @@ fn entries_fine(refs: &[u32], n: usize, posts: &[u32], w: usize, p: usize) -> bo
 }
 
 fn postings_sound(refs: &[u32], n: usize, posts: &[u32], w: usize, p: usize) -> bool
-    requires { ⌜ (3 ≤ w) × (w * p ≤ length (now posts)) × (4 * n + 4 ≤ length (now refs)) ⌝ }
+    requires { ⌜ (3 ≤ w) × (w * p ≤ length (now posts)) × (headWidth + rowWidth * n ≤ length (now refs)) ⌝ }
     ensures { λ r. ⌜ r ≡ postingsSound w (now (refs .entry)) n (now (posts .entry)) p ⌝ }
 {
     if !entries_fine(refs, n, posts, w, p) {
@@ -356,7 +360,7 @@ fn words_sound(refs: &[u32], posts: &[u32], stops: &[u32], w: usize) -> bool
     let p = h.postings;
     let k = h.stopped;
     if !counts_fit(
-        (refs.len() - 4) / 4,
+        (refs.len() - HEAD_WIDTH) / ROW_WIDTH,
         posts.len() / w,
         stops.len(),
         n,

@@ -5,6 +5,7 @@ use mathlib.Core.List.{List, _∷_, _++_}
 use Prim.Native.Nat.{ℕ, _+_, _*_}
 use lib.ListN.{length, take}
 use Rattle.lists.specs.Lists.{flat}
+use Rattle.model.specs.Words.{headWidth, rowWidth}
 use Rattle.rows.specs.References.{headerPut}
 use Rattle.build.specs.Answers.{rowsFor}
 use Rattle.build.proofs.Accepted.{padded-is}
@@ -64,8 +65,8 @@ returns c =
     let h = c .before .before .before .before .before .before .before .before .before .before .put-header in
     let rows : List ℕ = flat (rowsFor (a .hashes .now) (a .w) (a .lengths .now) (a .rates .now)) in
     let n : ℕ = length (a .lengths .now) in
-    c .before .before .clear-from .ensures ∙ padded-is (length (a .refs .now)) (4 + 4 * n) (g .last .0) (n ∷ 0 ∷ a .p ∷ a .k ∷ rows) (g .kept .0 ∙ h .kept .0) (s .pre .1)
-    (g .ensures ∙ ap (λ (l : List ℕ). take 4 l ++ rows) (h .ensures))
+    c .before .before .clear-from .ensures ∙ padded-is (length (a .refs .now)) (headWidth + rowWidth * n) (g .last .0) (n ∷ 0 ∷ a .p ∷ a .k ∷ rows) (g .kept .0 ∙ h .kept .0) (s .pre .1)
+    (g .ensures ∙ ap (λ (l : List ℕ). take headWidth l ++ rows) (h .ensures))
 
 pub put-references-spec : {M : Type 1} → statement M
 put-references-spec =

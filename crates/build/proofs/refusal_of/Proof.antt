@@ -8,7 +8,7 @@ use lib.ListN.{length}
 use borrow.Author.Tests.{not-true, not-false, lt-ltb, le-ltb}
 use Rattle.build_ranges.specs.Codes.{Fit}
 use Rattle.model.specs.Fingerprints.{malformedBuild}
-use Rattle.model.specs.Words.{Words, slicesListed}
+use Rattle.model.specs.Words.{Words, slicesListed, headWidth, rowWidth}
 use Rattle.soundness.specs.Scan.{words}
 use Rattle.build.proofs.Tests.{few-rows, some-rows}
 use Rattle.build.proofs.Accepted.{rung-1, rung-3, rung-5, rung-6, rung-7, rung-0, rows-test, postings-test, stopped-test, fit-is}
@@ -35,7 +35,7 @@ module _ (c : tie.Else3) where
   abbrev p : tie.Start
   p = o e2
 
-  rows-fit : length (p .args .lengths .now) ≤ (length (p .args .refs .now) - 4) / 4
+  rows-fit : length (p .args .lengths .now) ≤ (length (p .args .refs .now) - headWidth) / rowWidth
   rows-fit = c .if3 .left
 
   fit : Fit (p .args .hashes .now) (p .args .w - 1) (p .args .lengths .now)
@@ -74,7 +74,7 @@ returns-3 c =
     let E = c .before in
     let a = o E .args in
     let t = rows-test (a .w) (a .refs .now) (a .posts .now) (a .stops .now) (a .limit) (a .hashes .now) (a .lengths .now) (a .rates .now) (well E) in
-    sym (rung-5 (a .w) (m E) (a .limit) (a .hashes .now) (a .lengths .now) (a .rates .now) (is-listed E) (well E) (t ∙ lt-ltb ((length (a .refs .now) - 4) / 4) (length (a .lengths .now)) (c .if3 .taken)))
+    sym (rung-5 (a .w) (m E) (a .limit) (a .hashes .now) (a .lengths .now) (a .rates .now) (is-listed E) (well E) (t ∙ lt-ltb ((length (a .refs .now) - headWidth) / rowWidth) (length (a .lengths .now)) (c .if3 .taken)))
 
 sub-v : tie.Need-sub-v
 sub-v c =
@@ -98,7 +98,7 @@ returns-4 c =
     let a = o E .args in
     let t = rows-test (a .w) (a .refs .now) (a .posts .now) (a .stops .now) (a .limit) (a .hashes .now) (a .lengths .now) (a .rates .now) (well E) in
     let u = postings-test (a .w) (a .refs .now) (a .posts .now) (a .stops .now) (a .limit) (a .hashes .now) (a .lengths .now) (a .rates .now) (well E) in
-    sym (rung-6 (a .w) (m E) (a .limit) (a .hashes .now) (a .lengths .now) (a .rates .now) (is-listed E) (well E) (t ∙ le-ltb ((length (a .refs .now) - 4) / 4) (length (a .lengths .now)) (rows-fit F))
+    sym (rung-6 (a .w) (m E) (a .limit) (a .hashes .now) (a .lengths .now) (a .rates .now) (is-listed E) (well E) (t ∙ le-ltb ((length (a .refs .now) - headWidth) / rowWidth) (length (a .lengths .now)) (rows-fit F))
     (u ∙ lt-ltb (length (a .posts .now) / a .w) (length (a .hashes .now) / (a .w - 1)) (c .if4 .taken)))
 
 size-requires : tie.Need-size-requires
@@ -117,7 +117,7 @@ returns-5 c =
     let u = postings-test (a .w) (a .refs .now) (a .posts .now) (a .stops .now) (a .limit) (a .hashes .now) (a .lengths .now) (a .rates .now) (well E) in
     let v = stopped-test (a .w) (a .refs .now) (a .posts .now) (a .stops .now) (a .limit) (a .hashes .now) (a .lengths .now) (a .rates .now) (well E) (o E .pre .0) (fit F) in
     let r = rw (c .before .before .size .ensures) at (c .before .over-room .ensures) in
-    sym (rung-7 (a .w) (m E) (a .limit) (a .hashes .now) (a .lengths .now) (a .rates .now) (is-listed E) (well E) (t ∙ le-ltb ((length (a .refs .now) - 4) / 4) (length (a .lengths .now)) (rows-fit F))
+    sym (rung-7 (a .w) (m E) (a .limit) (a .hashes .now) (a .lengths .now) (a .rates .now) (is-listed E) (well E) (t ∙ le-ltb ((length (a .refs .now) - headWidth) / rowWidth) (length (a .lengths .now)) (rows-fit F))
     (u ∙ le-ltb (length (a .posts .now) / a .w) (length (a .hashes .now) / (a .w - 1)) (c .before .before .before .if4 .left))
     (v ∙ sym r ∙ c .if5 .taken))
 
@@ -130,7 +130,7 @@ returns-6 c =
     let u = postings-test (a .w) (a .refs .now) (a .posts .now) (a .stops .now) (a .limit) (a .hashes .now) (a .lengths .now) (a .rates .now) (well E) in
     let v = stopped-test (a .w) (a .refs .now) (a .posts .now) (a .stops .now) (a .limit) (a .hashes .now) (a .lengths .now) (a .rates .now) (well E) (o E .pre .0) (fit F) in
     let r = rw (c .before .before .size .ensures) at (c .before .over-room .ensures) in
-    sym (rung-0 (a .w) (m E) (a .limit) (a .hashes .now) (a .lengths .now) (a .rates .now) (is-listed E) (well E) (t ∙ le-ltb ((length (a .refs .now) - 4) / 4) (length (a .lengths .now)) (rows-fit F))
+    sym (rung-0 (a .w) (m E) (a .limit) (a .hashes .now) (a .lengths .now) (a .rates .now) (is-listed E) (well E) (t ∙ le-ltb ((length (a .refs .now) - headWidth) / rowWidth) (length (a .lengths .now)) (rows-fit F))
     (u ∙ le-ltb (length (a .posts .now) / a .w) (length (a .hashes .now) / (a .w - 1)) (c .before .before .before .if4 .left))
     (v ∙ sym r ∙ c .if5 .left))
 

@@ -1,5 +1,6 @@
 -- `build_entries::lay_row` meets its contract. Assumes nothing.
 use mathlib.Core.Path.{ap, _∙_}
+use Rattle.model.specs.Words.{headWidth, rowWidth}
 use mathlib.Core.List.{List}
 use Prim.Native.Nat.{ℕ, _+_, _*_}
 use lib.ListN.{take}
@@ -23,7 +24,7 @@ returns c =
     let P = c .before .before .before .before .before .before in
     let s = P .before .before .before in
     let a = s .args in
-    ap (take (4 + 4 * a .i + 4)) (c .before .before .put-entry .ensures ∙ ap (λ (l : List ℕ). entryPut l (a .i) 0) (P .put-row .ensures))
+    ap (take (headWidth + rowWidth * (a .i + 1))) (c .before .before .put-entry .ensures ∙ ap (λ (l : List ℕ). entryPut l (a .i) 0) (P .put-row .ensures))
     ∙ row-laid (a .refs .now) (a .i) (a .rate) (a .rmax) (s .pre)
 
 pub lay-row-spec : {M : Type 1} → statement M

@@ -12,6 +12,7 @@ use Rattle.build_ranges.specs.Codes.{tabulate}
 use Rattle.build_ranges.proofs.Ranks.{sum-none, sum-more, sum-take}
 use Rattle.build_entries.specs.Laid.{rowFor}
 use Rattle.model.specs.Rows.{canonical}
+use Rattle.model.specs.Words.{headWidth, rowWidth}
 use Rattle.build_entries.proofs.Prefix.{rows-none, rows-more}
 use Rattle.build_entries.proofs.Rows.{row-is}
 use Rattle.build_entries.proofs.put_rows.Statement.{statement}
@@ -19,7 +20,7 @@ use Rattle.build_entries.proofs.put_rows.Tie as tie
 
 abbrev Inv-loop : tie.InvT-loop
 Inv-loop refs₀ hashes w lengths rates start₀ i₀ refs start i =
-    (i ≤ length lengths) × (start ≡ sum (take i lengths)) × (length refs ≡ length refs₀) × (take (4 + 4 * i) refs ≡ take 4 refs₀ ++ flat (tabulate (λ i. rowFor hashes w (sum (take i lengths)) (getD lengths i 0) (getD rates i 0)) i))
+    (i ≤ length lengths) × (start ≡ sum (take i lengths)) × (length refs ≡ length refs₀) × (take (headWidth + rowWidth * i) refs ≡ take headWidth refs₀ ++ flat (tabulate (λ i. rowFor hashes w (sum (take i lengths)) (getD lengths i 0) (getD rates i 0)) i))
 
 abbrev μ-loop : tie.MeasureT-loop
 μ-loop refs₀ hashes w lengths rates start₀ i₀ refs start i =
@@ -94,7 +95,7 @@ loop-again c =
     let n : c .before .before .before .before .before .before .before .size .result ≡ getD (s .args .lengths .now) (l .i) 0 = c .before .before .before .before .before .before .before .size .ensures ∙ A .at .ensures in
     let same = row-is (s .args .hashes .now) (s .args .w) (sum (take (l .i) (s .args .lengths .now))) (getD (s .args .lengths .now) (l .i) 0) (getD (s .args .rates .now) (l .i) 0) (l .start) (c .before .before .before .before .before .before .before .size .result) (c .before .before .before .before .before .canonical-rate .result) (c .before .before .before .part-max .result)
     (c .before .before .before .before .before .canonical-rate .ensures ∙ ap canonical (c .before .before .before .before .before .before .at2 .ensures)) (c .before .before .before .part-max .ensures) (l .inv .1) n in
-    let e = g .ensures ∙ ap (λ (m : List ℕ). take (4 + 4 * l .i) (l .refs) ++ m) same in
+    let e = g .ensures ∙ ap (λ (m : List ℕ). take (headWidth + rowWidth * l .i) (l .refs) ++ m) same in
     (omega arith, omega (arith, next A, n), g .kept .0 ∙ l .inv .2, rows-more (row A) (s .args .refs .now) (l .refs) (g .last .0) (l .i) (l .inv .3) e)
 
 same-length : tie.Need-same-length Inv-loop μ-loop

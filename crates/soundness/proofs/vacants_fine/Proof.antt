@@ -7,6 +7,7 @@ use Rattle.lists.specs.Every.{every}
 use Rattle.lists.proofs.Every.{every-none, every-more, every-fail}
 use borrow.Author.Needs.{needs}
 use Rattle.model.specs.Soundness.{rowWord, vacantEntry}
+use Rattle.model.specs.Words.{atVacant}
 use Rattle.soundness.proofs.Vacant.{Marked, marked-none, marked-free, marked-taken, marked-more, vacant-out, vacant-live, vacant-named}
 use borrow.Author.Needs.{needs}
 use borrow.Author.Needs.{needs}
@@ -19,7 +20,7 @@ Inv-loop refs n v marks₀ j₀ marks j = (j ≤ v) × (every j (vacantEntry ref
 abbrev μ-loop : tie.MeasureT-loop
 μ-loop refs n v marks₀ j₀ marks j = v - j
 
-x-is : (c : tie.After-size Inv-loop μ-loop) → c .size .result ≡ rowWord (c .before .before .before .before .before .args .refs .now) (c .before .before .before .loop .j) 3
+x-is : (c : tie.After-size Inv-loop μ-loop) → c .size .result ≡ rowWord (c .before .before .before .before .before .args .refs .now) (c .before .before .before .loop .j) atVacant
 x-is c = c .size .ensures ∙ c .before .row-word .ensures
 
 loop-holds : tie.Need-loop-holds Inv-loop μ-loop
