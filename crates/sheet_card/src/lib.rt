@@ -4,7 +4,7 @@ ghost use mathlib.Core.Path.{_≡_};
 ghost use Prim.Native.Nat.{_+_, _≤_, _<_};
 ghost use lib.ListN.{length};
 ghost use Rattle.soundness.specs.Scan.{lent};
-ghost use Rattle.sheet_text.specs.Put.{Put};
+ghost use Rattle.sheet_text.specs.Put.{lineMost, Put};
 ghost use Rattle.sheet_kinds.specs.Kinds.{zeroScratch};
 ghost use Rattle.sheet_card.specs.Ends.{header, endLine, faultLine};
 ghost use Rattle.sheet_card.specs.Sheet.{lengthAt, whole};
@@ -26,17 +26,17 @@ pub struct Turned {
 // ---- the sheet's first line and its last
 
 fn put_header(line: &mut [u8], at: usize) -> usize
-    requires { ⌜ at + 128 ≤ length (now line) ⌝ }
+    requires { ⌜ at + lineMost ≤ length (now line) ⌝ }
     ensures { λ r. ⌜ Put (now (line .entry)) (now (line .exit)) at r header ⌝ }
-    ensures { λ r. ⌜ r ≤ at + 128 ⌝ }
+    ensures { λ r. ⌜ r ≤ at + lineMost ⌝ }
 {
     sheet_text::put_bytes(line, at, b"sheet 1\n")
 }
 
 fn put_end(line: &mut [u8], at: usize, records: u64) -> usize
-    requires { ⌜ at + 128 ≤ length (now line) ⌝ }
+    requires { ⌜ at + lineMost ≤ length (now line) ⌝ }
     ensures { λ r. ⌜ Put (now (line .entry)) (now (line .exit)) at r (endLine records) ⌝ }
-    ensures { λ r. ⌜ r ≤ at + 128 ⌝ }
+    ensures { λ r. ⌜ r ≤ at + lineMost ⌝ }
 {
     let a = sheet_text::put_bytes(line, at, b"end");
     let b = sheet_text::put_number(line, a, records);
@@ -44,18 +44,18 @@ fn put_end(line: &mut [u8], at: usize, records: u64) -> usize
 }
 
 fn put_fault(line: &mut [u8], at: usize, offset: u64) -> usize
-    requires { ⌜ at + 128 ≤ length (now line) ⌝ }
+    requires { ⌜ at + lineMost ≤ length (now line) ⌝ }
     ensures { λ r. ⌜ Put (now (line .entry)) (now (line .exit)) at r (faultLine offset) ⌝ }
-    ensures { λ r. ⌜ r ≤ at + 128 ⌝ }
+    ensures { λ r. ⌜ r ≤ at + lineMost ⌝ }
 {
     sheet_text::put_short(line, at, 88, offset)
 }
 
 // The last line, after a read that yielded nothing or no whole record.
 fn put_last(line: &mut [u8], at: usize, p: Progress, nothing: bool) -> usize
-    requires { ⌜ at + 128 ≤ length (now line) ⌝ }
+    requires { ⌜ at + lineMost ≤ length (now line) ⌝ }
     ensures { λ r. ⌜ Put (now (line .entry)) (now (line .exit)) at r (lastOf p nothing) ⌝ }
-    ensures { λ r. ⌜ r ≤ at + 128 ⌝ }
+    ensures { λ r. ⌜ r ≤ at + lineMost ⌝ }
 {
     if nothing {
         return put_end(line, at, p.records);
@@ -171,7 +171,7 @@ pub fn begin(version: &[u8], line: &mut [u8]) -> Turned
 }
 
 // One turn on the bytes that were read for it: a record with its length field, or what there was of one. Puts a line behind the first `at` bytes of a
-// lent buffer. A line has at most 128 bytes. The scratch has room for 512 votes, and is zeros before and after.
+// lent buffer. A line has at most `lineMost` bytes. The scratch has room for 512 votes, and is zeros before and after.
 pub fn turn(
     bytes: &[u8],
     refs: &mut [u32],
@@ -182,10 +182,10 @@ pub fn turn(
     at: usize,
     p: Progress,
 ) -> Turned
-    requires { ⌜ (at + 128 ≤ length (now line)) × (p .records ≤ p .offset) × (p .offset < limit) ⌝ }
+    requires { ⌜ (at + lineMost ≤ length (now line)) × (p .records ≤ p .offset) × (p .offset < limit) ⌝ }
     requires { ⌜ now scratch ≡ zeroScratch ⌝ }
     ensures { λ r. ⌜ Put (now (line .entry)) (now (line .exit)) at (r .end) (turnOf (lent (refs .entry) (postings .entry) (stopped .entry)) p (now (bytes .entry)) .line) ⌝ }
-    ensures { λ r. ⌜ r .end ≤ at + 128 ⌝ }
+    ensures { λ r. ⌜ r .end ≤ at + lineMost ⌝ }
     ensures { λ _. ⌜ lent (refs .exit) (postings .exit) (stopped .exit) ≡ turnOf (lent (refs .entry) (postings .entry) (stopped .entry)) p (now (bytes .entry)) .store ⌝ }
     ensures { λ r. ⌜ r .next ≡ turnOf (lent (refs .entry) (postings .entry) (stopped .entry)) p (now (bytes .entry)) .next ⌝ }
     ensures { λ _. ⌜ now (scratch .exit) ≡ zeroScratch ⌝ }

@@ -12,7 +12,7 @@ use Rattle.wang_judge.specs.declared.WangMatchConfig.{WangMatchConfig}
 use Rattle.wang_query.specs.Arguments.{queryWith}
 use Rattle.sheet_lines.specs.Lines.{answerLine}
 use Rattle.sheet_text.specs.Bytes.{fieldsOf}
-use Rattle.sheet_text.specs.Put.{Put}
+use Rattle.sheet_text.specs.Put.{lineMost, Put}
 use Rattle.sheet_records.specs.Step.{lineAndStore, stepBy, stepOf, Stepped}
 use Rattle.sheet_kinds.specs.Kinds.{scratchWords, zeroScratch, kindOf}
 
@@ -23,7 +23,7 @@ pub stepped-as : {l l' : List ℕ} {at end : ℕ} {m : Words} {o o' : List ℕ �
 stepped-as {l} {l'} {at} {end} {m} h e = subst (λ (x : List ℕ × Words). Stepped l l' at end m x) e h
 
 -- the line of an answer, and the store with it
-pub stepped-by : {l l' : List ℕ} {at end : ℕ} {m : Words} {o : Answer × Words} (ws : List ℕ) (a : Answer) → Put l l' at end (answerLine (getD ws 0 0) a) → end ≤ at + 128
+pub stepped-by : {l l' : List ℕ} {at end : ℕ} {m : Words} {o : Answer × Words} (ws : List ℕ) (a : Answer) → Put l l' at end (answerLine (getD ws 0 0) a) → end ≤ at + lineMost
     → (a, m) ≡ o → Stepped l l' at end m (lineAndStore ws o)
 stepped-by ws a p h e = stepped-as (record { line = p; short = h; store = refl }) (ap (λ (y : Answer × Words). lineAndStore ws y) e)
 

@@ -9,7 +9,7 @@ use Rattle.model.specs.Words.{Words}
 use Rattle.model.specs.Run.{run}
 use Rattle.wang_judge.specs.Scheme.{wang}
 use Rattle.sheet_text.specs.Bytes.{fieldsOf}
-use Rattle.sheet_text.specs.Put.{Put}
+use Rattle.sheet_text.specs.Put.{lineMost, Put}
 use Rattle.sheet_lines.specs.Lines.{answerLine}
 use Rattle.sheet_kinds.specs.Kinds.{Kind, kindOf}
 
@@ -25,8 +25,8 @@ stepBy m ws (some k) = lineAndStore ws (run wang m (k .call ws))
 unfoldable pub stepOf : Words → List ℕ → List ℕ × Words
 stepOf m r = stepBy m (fieldsOf r) (kindOf (getD r 0 0))
 
--- the line of such a step stands behind the first `at` bytes of the buffer and ends at `end`, at most 128 bytes later; its store is m
+-- the line of such a step stands behind the first `at` bytes of the buffer and ends at `end`, at most `lineMost` bytes later; its store is m
 pub record Stepped (before after : List ℕ) (at end : ℕ) (m : Words) (o : List ℕ × Words) : Type 0 where
   pub line : Put before after at end (o .0)
-  pub short : end ≤ at + 128
+  pub short : end ≤ at + lineMost
   pub store : m ≡ o .1

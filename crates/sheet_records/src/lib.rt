@@ -7,6 +7,7 @@ ghost use Rattle.model.specs.Run.{run};
 ghost use Rattle.soundness.specs.Scan.{lent};
 ghost use Rattle.wang_judge.specs.Scheme.{wang};
 ghost use Rattle.sheet_kinds.specs.Kinds.{zeroScratch, insertCall, removeCall, queryCall, kindOf, goodLength};
+ghost use Rattle.sheet_text.specs.Put.{lineMost};
 ghost use Rattle.sheet_records.specs.Step.{lineAndStore, stepBy, stepOf, Stepped};
 use wang::WangIndex;
 
@@ -19,7 +20,7 @@ fn insert_record(
     line: &mut [u8],
     at: usize,
 ) -> usize
-    requires { ⌜ (2 ≤ length (now fields)) × (at + 128 ≤ length (now line)) ⌝ }
+    requires { ⌜ (2 ≤ length (now fields)) × (at + lineMost ≤ length (now line)) ⌝ }
     ensures { λ r. ⌜ Stepped (now (line .entry)) (now (line .exit)) at r (lent (refs .exit) (postings .exit) (stopped .exit))
         (lineAndStore (now (fields .entry)) (run wang (lent (refs .entry) (postings .entry) (stopped .entry)) (insertCall (now (fields .entry))))) ⌝ }
 {
@@ -38,7 +39,7 @@ fn remove_record(
     line: &mut [u8],
     at: usize,
 ) -> usize
-    requires { ⌜ (1 ≤ length (now fields)) × (at + 128 ≤ length (now line)) ⌝ }
+    requires { ⌜ (1 ≤ length (now fields)) × (at + lineMost ≤ length (now line)) ⌝ }
     ensures { λ r. ⌜ Stepped (now (line .entry)) (now (line .exit)) at r (lent (refs .exit) (postings .exit) (stopped .entry))
         (lineAndStore (now (fields .entry)) (run wang (lent (refs .entry) (postings .entry) (stopped .entry)) (removeCall (now (fields .entry))))) ⌝ }
 {
@@ -57,7 +58,7 @@ fn query_record(
     line: &mut [u8],
     at: usize,
 ) -> usize
-    requires { ⌜ (5 ≤ length (now fields)) × (at + 128 ≤ length (now line)) ⌝ }
+    requires { ⌜ (5 ≤ length (now fields)) × (at + lineMost ≤ length (now line)) ⌝ }
     requires { ⌜ now scratch ≡ zeroScratch ⌝ }
     ensures { λ r. ⌜ Stepped (now (line .entry)) (now (line .exit)) at r (lent (refs .entry) (postings .entry) (stopped .entry))
         (lineAndStore (now (fields .entry)) (run wang (lent (refs .entry) (postings .entry) (stopped .entry)) (queryCall (now (fields .entry))))) ⌝ }
@@ -80,7 +81,7 @@ fn run_record(
     line: &mut [u8],
     at: usize,
 ) -> usize
-    requires { ⌜ (goodLength (4 * length (now fields) + 1) kind ≡ true) × (at + 128 ≤ length (now line)) ⌝ }
+    requires { ⌜ (goodLength (4 * length (now fields) + 1) kind ≡ true) × (at + lineMost ≤ length (now line)) ⌝ }
     requires { ⌜ now scratch ≡ zeroScratch ⌝ }
     ensures { λ r. ⌜ Stepped (now (line .entry)) (now (line .exit)) at r (lent (refs .exit) (postings .exit) (stopped .exit))
         (stepBy (lent (refs .entry) (postings .entry) (stopped .entry)) (now (fields .entry)) (kindOf kind)) ⌝ }
@@ -96,7 +97,7 @@ fn run_record(
 }
 
 // The step on one record, whose length is good for its kind: puts its line behind the first `at` bytes of a lent buffer and answers where the
-// line ends. A line has at most 128 bytes. The scratch has room for 512 votes, and is zeros before and after.
+// line ends. A line has at most `lineMost` bytes. The scratch has room for 512 votes, and is zeros before and after.
 pub fn step(
     bytes: &[u8],
     refs: &mut [u32],
@@ -106,7 +107,7 @@ pub fn step(
     line: &mut [u8],
     at: usize,
 ) -> usize
-    requires { ⌜ (goodLength (length (now bytes)) (getD (now bytes) 0 0) ≡ true) × (at + 128 ≤ length (now line)) ⌝ }
+    requires { ⌜ (goodLength (length (now bytes)) (getD (now bytes) 0 0) ≡ true) × (at + lineMost ≤ length (now line)) ⌝ }
     requires { ⌜ now scratch ≡ zeroScratch ⌝ }
     ensures { λ r. ⌜ Stepped (now (line .entry)) (now (line .exit)) at r (lent (refs .exit) (postings .exit) (stopped .exit))
         (stepOf (lent (refs .entry) (postings .entry) (stopped .entry)) (now (bytes .entry))) ⌝ }
