@@ -1,4 +1,5 @@
-// The calls of the two indexes. The answer's first word is the case, the others its values, unused ones 0.
+// The calls of the two indexes. The answer's first word is the case, the others its values, unused ones 0. Each contract is one equation: those words, with
+// the store and a query's scratch at exit, are what `run` says of the call.
 ghost use mathlib.Core.Path.{_≡_};
 ghost use lib.ListN.{length};
 ghost use Rattle.model.specs.Calls.{build, insert, remove, liveCount, query};
@@ -128,7 +129,8 @@ pub extern "C" fn wang_index_build(
     answer: &mut [u64; 8],
 )
     ensures { λ _. ⌜ (now (answer .exit), lent (refs .exit) (postings .exit) (stopped .exit))
-        ≡ inWords (run wang (lent (refs .entry) (postings .entry) (stopped .entry)) (build limit (now (hashes .entry)) (now (lengths .entry)) (now (rates .entry)))) ⌝ }
+        ≡ inWords (run wang (lent (refs .entry) (postings .entry) (stopped .entry))
+        (build limit (now (hashes .entry)) (now (lengths .entry)) (now (rates .entry)))) ⌝ }
 {
     put_building(
         answer,
@@ -220,7 +222,8 @@ pub extern "C" fn panako_index_build(
     answer: &mut [u64; 8],
 )
     ensures { λ _. ⌜ (now (answer .exit), lent (refs .exit) (postings .exit) (stopped .exit))
-        ≡ inWords (run panako (lent (refs .entry) (postings .entry) (stopped .entry)) (build limit (now (hashes .entry)) (now (lengths .entry)) (now (rates .entry)))) ⌝ }
+        ≡ inWords (run panako (lent (refs .entry) (postings .entry) (stopped .entry))
+        (build limit (now (hashes .entry)) (now (lengths .entry)) (now (rates .entry)))) ⌝ }
 {
     put_building(
         answer,
@@ -316,7 +319,8 @@ pub extern "C" fn panako_index_query(
 )
     ensures { λ _. ⌜ (now (answer .exit), (lent (refs .entry) (postings .entry) (stopped .entry), now (scratch .exit)))
         ≡ inWordsWith (now (scratch .entry)) (run panako (lent (refs .entry) (postings .entry) (stopped .entry))
-        (query (panakoAsked (now (hashes .entry)) rate «scale_min» «scale_max» «scale_bins» tolerance «min_votes» «min_score» «min_prominence» (length (now (scratch .entry)))))) ⌝ }
+        (query (panakoAsked (now (hashes .entry)) rate «scale_min» «scale_max» «scale_bins»
+        tolerance «min_votes» «min_score» «min_prominence» (length (now (scratch .entry)))))) ⌝ }
 {
     let cfg = panako_config(
         scale_min,
