@@ -1,17 +1,46 @@
 // The calls of a line's words, of either index, on the lent store. Each answers whether the line has the call's fields, and of a query also
 // whether the scratch is then as it is to be.
-ghost use mathlib.Core.Path.{_≡_};
-ghost use mathlib.Core.Bool.{true};
 ghost use Prim.Native.Nat.{_≤_};
 ghost use lib.ListN.{length};
-ghost use Rattle.soundness.specs.Scan.{words};
-ghost use Rattle.capi.specs.Answers.{answerWords};
-ghost use Rattle.replay.specs.Outcomes.{buildOutcome, insertOutcome, removeOutcome, countOutcome, found, queryOutcome, outcome, isCall, Ran};
 
-pub fn is_call(letter: u8) -> bool
-    ensures { λ r. ⌜ r ≡ isCall letter ⌝ }
-{
+pub fn is_call(letter: u8) -> bool {
     (letter == b'B') | (letter == b'I') | (letter == b'D') | (letter == b'C') | (letter == b'Q')
+}
+
+fn build_of(
+    is_wang: bool,
+    limit: u32,
+    hashes: &[u32],
+    lengths: &[u32],
+    rates: &[u32],
+    refs: &mut [u32],
+    postings: &mut [u32],
+    stopped: &mut [u32],
+    answer: &mut [u64; 8],
+) {
+    if is_wang {
+        capi::index::wang_index_build(
+            refs,
+            postings,
+            stopped,
+            hashes,
+            lengths,
+            rates,
+            limit,
+            answer,
+        );
+        return;
+    }
+    capi::index::panako_index_build(
+        refs,
+        postings,
+        stopped,
+        hashes,
+        lengths,
+        rates,
+        limit,
+        answer,
+    );
 }
 
 // Limit, numbers of lengths and of rates, lengths, rates, hashes.
@@ -22,9 +51,7 @@ fn build(
     postings: &mut [u32],
     stopped: &mut [u32],
     answer: &mut [u64; 8],
-) -> bool
-    ensures { λ r. ⌜ (r ≡ true → Ran (buildOutcome «is_wang» (words (now (refs .entry)) (now (postings .entry)) (now (stopped .entry))) (now (line .entry))) (now (answer .exit)) (now (refs .exit)) (now (postings .exit)) (now (stopped .exit))) ⌝ }
-{
+) -> bool {
     let size = line.len();
     if size < 3 {
         return false;
@@ -35,27 +62,15 @@ fn build(
     if b > size {
         return false;
     }
-    if is_wang {
-        capi::index::wang_index_build(
-            refs,
-            postings,
-            stopped,
-            &line[b..],
-            &line[3..a],
-            &line[a..b],
-            limit,
-            answer,
-        );
-        return true;
-    }
-    capi::index::panako_index_build(
-        refs,
-        postings,
-        stopped,
+    build_of(
+        is_wang,
+        limit,
         &line[b..],
         &line[3..a],
         &line[a..b],
-        limit,
+        refs,
+        postings,
+        stopped,
         answer,
     );
     true
@@ -69,9 +84,7 @@ fn insert(
     postings: &mut [u32],
     stopped: &mut [u32],
     answer: &mut [u64; 8],
-) -> bool
-    ensures { λ r. ⌜ (r ≡ true → Ran (insertOutcome «is_wang» (words (now (refs .entry)) (now (postings .entry)) (now (stopped .entry))) (now (line .entry))) (now (answer .exit)) (now (refs .exit)) (now (postings .exit)) (now (stopped .exit))) ⌝ }
-{
+) -> bool {
     if line.len() < 2 {
         return false;
     }
@@ -93,9 +106,7 @@ fn remove(
     postings: &mut [u32],
     stopped: &mut [u32],
     answer: &mut [u64; 8],
-) -> bool
-    ensures { λ r. ⌜ (r ≡ true → Ran (removeOutcome «is_wang» (words (now (refs .entry)) (now (postings .entry)) (now (stopped .entry))) (now (line .entry))) (now (answer .exit)) (now (refs .exit)) (now (postings .exit)) (now (stopped .exit))) ⌝ }
-{
+) -> bool {
     if line.len() != 1 {
         return false;
     }
@@ -115,9 +126,7 @@ fn live_count(
     postings: &[u32],
     stopped: &[u32],
     answer: &mut [u64; 8],
-) -> bool
-    ensures { λ r. ⌜ (r ≡ true → Ran (countOutcome «is_wang» (words (now (refs .entry)) (now (postings .entry)) (now (stopped .entry)))) (now (answer .exit)) (now (refs .entry)) (now (postings .entry)) (now (stopped .entry))) ⌝ }
-{
+) -> bool {
     if line.len() != 0 {
         return false;
     }
@@ -129,7 +138,60 @@ fn live_count(
     true
 }
 
-// Rate, scale_min, scale_max, scale_bins, tolerance, min_votes, min_score, min_prominence, hashes.
+// Rate, scale_min, scale_max, scale_bins, tolerance, min_votes, min_score, min_prominence, hashes; Wang has no use for the scales.
+fn ask_wang(
+    line: &[u32],
+    refs: &[u32],
+    postings: &[u32],
+    stopped: &[u32],
+    scratch: &mut [i64],
+    answer: &mut [u64; 8],
+)
+    requires { ⌜ 8 ≤ length (now line) ⌝ }
+{
+    capi::index::wang_index_query(
+        refs,
+        postings,
+        stopped,
+        scratch,
+        &line[8..],
+        line[0],
+        line[4],
+        line[5],
+        line[6],
+        line[7],
+        answer,
+    );
+}
+
+fn ask_panako(
+    line: &[u32],
+    refs: &[u32],
+    postings: &[u32],
+    stopped: &[u32],
+    scratch: &mut [i64],
+    answer: &mut [u64; 8],
+)
+    requires { ⌜ 8 ≤ length (now line) ⌝ }
+{
+    capi::index::panako_index_query(
+        refs,
+        postings,
+        stopped,
+        scratch,
+        &line[8..],
+        line[0],
+        line[1],
+        line[2],
+        line[3],
+        line[4],
+        line[5],
+        line[6],
+        line[7],
+        answer,
+    );
+}
+
 fn ask(
     is_wang: bool,
     line: &[u32],
@@ -140,45 +202,12 @@ fn ask(
     answer: &mut [u64; 8],
 )
     requires { ⌜ 8 ≤ length (now line) ⌝ }
-    ensures { λ _. ⌜ now (answer .exit) ≡ answerWords (found «is_wang» (words (now (refs .entry)) (now (postings .entry)) (now (stopped .entry))) (now (line .entry)) (length (now (scratch .entry)))) ⌝ }
 {
-    let rate = line[0];
-    let tolerance = line[4];
-    let votes = line[5];
-    let score = line[6];
-    let prominence = line[7];
     if is_wang {
-        capi::index::wang_index_query(
-            refs,
-            postings,
-            stopped,
-            scratch,
-            &line[8..],
-            rate,
-            tolerance,
-            votes,
-            score,
-            prominence,
-            answer,
-        );
+        ask_wang(line, refs, postings, stopped, scratch, answer);
         return;
     }
-    capi::index::panako_index_query(
-        refs,
-        postings,
-        stopped,
-        scratch,
-        &line[8..],
-        rate,
-        line[1],
-        line[2],
-        line[3],
-        tolerance,
-        votes,
-        score,
-        prominence,
-        answer,
-    );
+    ask_panako(line, refs, postings, stopped, scratch, answer);
 }
 
 fn fill(scratch: &mut [i64], x: i64) {
@@ -219,7 +248,6 @@ fn ask_filled(
     answer: &mut [u64; 8],
 ) -> bool
     requires { ⌜ 8 ≤ length (now line) ⌝ }
-    ensures { λ _. ⌜ now (answer .exit) ≡ answerWords (found «is_wang» (words (now (refs .entry)) (now (postings .entry)) (now (stopped .entry))) (now (line .entry)) (length (now (scratch .entry)))) ⌝ }
 {
     fill(scratch, filling);
     ask(is_wang, line, refs, postings, stopped, scratch, answer);
@@ -235,9 +263,7 @@ fn query(
     stopped: &[u32],
     scratch: &mut [i64],
     answer: &mut [u64; 8],
-) -> bool
-    ensures { λ r. ⌜ (r ≡ true → Ran (queryOutcome «is_wang» (words (now (refs .entry)) (now (postings .entry)) (now (stopped .entry))) (now (line .entry))) (now (answer .exit)) (now (refs .entry)) (now (postings .entry)) (now (stopped .entry))) ⌝ }
-{
+) -> bool {
     if line.len() < 10 {
         return false;
     }
@@ -258,6 +284,25 @@ fn query(
     )
 }
 
+// The calls that may change the store.
+fn change(
+    letter: u8,
+    is_wang: bool,
+    line: &[u32],
+    refs: &mut [u32],
+    postings: &mut [u32],
+    stopped: &mut [u32],
+    answer: &mut [u64; 8],
+) -> bool {
+    if letter == b'B' {
+        return build(is_wang, line, refs, postings, stopped, answer);
+    }
+    if letter == b'I' {
+        return insert(is_wang, line, refs, postings, stopped, answer);
+    }
+    remove(is_wang, line, refs, postings, stopped, answer)
+}
+
 pub fn run(
     letter: u8,
     is_wang: bool,
@@ -267,20 +312,12 @@ pub fn run(
     stopped: &mut [u32],
     scratch: &mut [i64],
     answer: &mut [u64; 8],
-) -> bool
-    ensures { λ r. ⌜ (r ≡ true → Ran (outcome «is_wang» (words (now (refs .entry)) (now (postings .entry)) (now (stopped .entry))) letter (now (line .entry))) (now (answer .exit)) (now (refs .exit)) (now (postings .exit)) (now (stopped .exit))) ⌝ }
-{
-    if letter == b'B' {
-        return build(is_wang, line, refs, postings, stopped, answer);
-    }
-    if letter == b'I' {
-        return insert(is_wang, line, refs, postings, stopped, answer);
-    }
-    if letter == b'D' {
-        return remove(is_wang, line, refs, postings, stopped, answer);
-    }
+) -> bool {
     if letter == b'C' {
         return live_count(is_wang, line, refs, postings, stopped, answer);
     }
-    query(is_wang, line, refs, postings, stopped, scratch, answer)
+    if letter == b'Q' {
+        return query(is_wang, line, refs, postings, stopped, scratch, answer);
+    }
+    change(letter, is_wang, line, refs, postings, stopped, answer)
 }

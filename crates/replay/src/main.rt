@@ -20,6 +20,19 @@ ghost use mathlib.Core.Path.{_≡_};
 ghost use Prim.Native.Nat.{_<_};
 use text::Line;
 
+// Stores of at most 40 references, 512 entries of Panako and 64 stopped keys, scratch for 512 votes of Panako, lines of at most 4,224 words.
+const REFS: usize = 164;
+
+const POSTINGS: usize = 2560;
+
+const STOPPED: usize = 64;
+
+const SCRATCH: usize = 6144;
+
+const WORDS: usize = 4224;
+
+const TEXT: usize = 38017;
+
 // The lines and calls so far, the index, the words of the slices that are lent, whether the list goes on, and whether all was as it is to be.
 struct State {
     lines: u64,
@@ -112,9 +125,11 @@ fn run_on(
     after(st, 0, good)
 }
 
+// A line of the first n words.
 fn run_line(
     letter: u8,
-    line: &[u32],
+    words: &[u32],
+    n: usize,
     refs: &mut [u32],
     postings: &mut [u32],
     stopped: &mut [u32],
@@ -122,8 +137,11 @@ fn run_line(
     answer: &mut [u64; 8],
     st: State,
 ) -> State {
+    if n > words.len() {
+        return after(st, 0, false);
+    }
     if letter == b'N' {
-        return lend(line, st);
+        return lend(&words[..n], st);
     }
     let r = st.refs;
     let p = st.postings;
@@ -139,7 +157,7 @@ fn run_line(
     }
     run_on(
         letter,
-        line,
+        &words[..n],
         &mut refs[..r],
         &mut postings[..p],
         &mut stopped[..k],
@@ -151,13 +169,13 @@ fn run_line(
 
 // The next line: it is read and run.
 fn turn(
-    refs: &mut [u32],
-    postings: &mut [u32],
-    stopped: &mut [u32],
-    scratch: &mut [i64],
+    refs: &mut [u32; REFS],
+    postings: &mut [u32; POSTINGS],
+    stopped: &mut [u32; STOPPED],
+    scratch: &mut [i64; SCRATCH],
     answer: &mut [u64; 8],
-    words: &mut [u32],
-    text: &mut [u8],
+    words: &mut [u32; WORDS],
+    text: &mut [u8; TEXT],
     st: State,
 ) -> State {
     match text::read_line(text, words) {
@@ -165,7 +183,8 @@ fn turn(
         Line::Fault => after(st, 0, false),
         Line::Of(letter, n) => run_line(
             letter,
-            &words[..n],
+            words,
+            n,
             refs,
             postings,
             stopped,
@@ -179,13 +198,13 @@ fn turn(
 // The whole list. A proved loop has to end, and nothing says that the input does: so the turns are counted down, from a number that no run
 // uses up.
 fn run(
-    refs: &mut [u32],
-    postings: &mut [u32],
-    stopped: &mut [u32],
-    scratch: &mut [i64],
+    refs: &mut [u32; REFS],
+    postings: &mut [u32; POSTINGS],
+    stopped: &mut [u32; STOPPED],
+    scratch: &mut [i64; SCRATCH],
     answer: &mut [u64; 8],
-    words: &mut [u32],
-    text: &mut [u8],
+    words: &mut [u32; WORDS],
+    text: &mut [u8; TEXT],
 ) -> State {
     let mut st = State {
         lines: 0,
@@ -219,15 +238,14 @@ fn report(st: State) {
     io::write_all(1, b" differs\n");
 }
 
-// Stores of at most 40 references, 512 entries of Panako and 64 stopped keys, scratch for 512 votes of Panako, lines of at most 4,224 words.
 fn main() {
-    let mut refs = [0u32; 164];
-    let mut postings = [0u32; 2560];
-    let mut stopped = [0u32; 64];
-    let mut scratch = [0i64; 6144];
+    let mut refs = [0u32; REFS];
+    let mut postings = [0u32; POSTINGS];
+    let mut stopped = [0u32; STOPPED];
+    let mut scratch = [0i64; SCRATCH];
     let mut answer = [0u64; 8];
-    let mut words = [0u32; 4224];
-    let mut text = [0u8; 38017];
+    let mut words = [0u32; WORDS];
+    let mut text = [0u8; TEXT];
     let st = run(
         &mut refs,
         &mut postings,

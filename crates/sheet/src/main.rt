@@ -2,8 +2,9 @@
 // every decision, and shows that turn after turn gives the sheet (proofs/Printed.antt). Here bytes are read, turns are taken and lines are written,
 // with buffers of fixed sizes.
 ghost use mathlib.Core.Path.{_≡_};
-ghost use Prim.Native.Nat.{_+_, _≤_};
+ghost use Prim.Native.Nat.{_+_, _*_, _≤_};
 ghost use lib.ListN.{length};
+ghost use Rattle.sheet_text.specs.Put.{lineMost};
 ghost use Rattle.sheet_kinds.specs.Kinds.{zeroScratch};
 ghost use Rattle.sheet_card.specs.Sheet.{emptyStore};
 
@@ -28,10 +29,10 @@ fn read_record(bytes: &mut [u8]) -> usize
 
 // Writes what stands in the buffer where there is no room for another line, and answers where the next line goes.
 fn flushed(out: &[u8], at: usize) -> usize
-    requires { ⌜ (at ≤ length (now out)) × (128 ≤ length (now out)) ⌝ }
-    ensures { λ r. ⌜ r + 128 ≤ length (now (out .entry)) ⌝ }
+    requires { ⌜ (at ≤ length (now out)) × (lineMost ≤ length (now out)) ⌝ }
+    ensures { λ r. ⌜ r + lineMost ≤ length (now (out .entry)) ⌝ }
 {
-    if out.len() - at >= 128 {
+    if out.len() - at >= sheet_text::LINE_MOST {
         return at;
     }
     io::write_all(1, &out[..at]);
@@ -48,7 +49,7 @@ fn run(
     out: &mut [u8],
 )
     requires { ⌜ (now refs ≡ emptyStore .references) × (now postings ≡ emptyStore .postings) × (now stopped ≡ emptyStore .stopped) ⌝ }
-    requires { ⌜ (now scratch ≡ zeroScratch) × (8196 ≤ length (now bytes)) × (256 ≤ length (now out)) ⌝ }
+    requires { ⌜ (now scratch ≡ zeroScratch) × (8196 ≤ length (now bytes)) × (2 * lineMost ≤ length (now out)) ⌝ }
 {
     let got = read_part(bytes, 0, 1);
     let start = sheet_card::begin(&bytes[..got], out);

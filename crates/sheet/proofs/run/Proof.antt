@@ -1,11 +1,12 @@
 -- `sheet::run` meets its contract. The invariant: the scratch is zeros, the lines end in the buffer, and there are no more records than bytes. The
 -- measure is what is left until the limit. Assumes nothing.
+use Rattle.sheet_text.specs.Put.{lineMost}
 use Rattle.sheet_kinds.specs.Kinds.{zeroScratch}
 use Rattle.sheet_card.proofs.Turns.{left, Next, next-turn, below-limit, started-counts}
 use Rattle.sheet_card.specs.Turns.{goesOn}
 use lib.Seq.{length-take-le}
 use lib.ListN.{length}
-use Prim.Native.Nat.{_≤_}
+use Prim.Native.Nat.{_*_, _≤_}
 use mathlib.Core.Bool.{true}
 use mathlib.Core.Path.{_≡_, refl, sym, _∙_}
 use borrow.Author.Needs.{needs}
@@ -14,7 +15,7 @@ use Rattle.sheet.proofs.run.Tie as tie
 
 abbrev Inv-loop : tie.InvT-loop
 Inv-loop refs₀ postings₀ stopped₀ scratch₀ bytes₀ out₀ got at₀ p₀ refs postings stopped scratch bytes out at p =
-    (scratch ≡ zeroScratch) × (at ≤ length out) × (256 ≤ length out) × (8196 ≤ length bytes) × (p .records ≤ p .offset)
+    (scratch ≡ zeroScratch) × (at ≤ length out) × (2 * lineMost ≤ length out) × (8196 ≤ length bytes) × (p .records ≤ p .offset)
     × (length refs ≡ length refs₀) × (length postings ≡ length postings₀) × (length stopped ≡ length stopped₀) × (length scratch ≡ length scratch₀)
     × (length bytes ≡ length bytes₀) × (length out ≡ length out₀)
 

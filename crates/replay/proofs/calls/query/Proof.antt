@@ -1,18 +1,13 @@
 -- `replay::calls::query` meets its contract. Assumes nothing.
-use mathlib.Core.Path.{refl, sym, ap, _∙_}
-use Rattle.lists.proofs.Tests.{not-both}
-use Rattle.soundness.specs.Scan.{words}
-use native.Mathlib.Omega.{arith}
 use lib.Seq.{length-take-le}
-use Rattle.model.specs.Calls.{Answer}
-use Rattle.capi.specs.Answers.{answerWords}
-use Rattle.replay.proofs.Outcomes.{found-line}
+use mathlib.Core.Path.{sym}
+use native.Mathlib.Omega.{arith}
 use borrow.Author.Needs.{needs}
 use Rattle.replay.proofs.calls.query.Statement.{statement}
 use Rattle.replay.proofs.calls.query.Tie as tie
 
 returns : tie.Need-returns
-returns c = λ e. absurd (not-both e refl)
+returns c = search needs
 
 shared-slice-read-count-of : tie.Need-shared-slice-read-count-of
 shared-slice-read-count-of c = search needs
@@ -21,7 +16,7 @@ count-of-requires : tie.Need-count-of-requires
 count-of-requires c κs = search needs
 
 returns-2 : tie.Need-returns-2
-returns-2 c = λ e. absurd (not-both e refl)
+returns-2 c = search needs
 
 shared-slice-read-count-of-2 : tie.Need-shared-slice-read-count-of-2
 shared-slice-read-count-of-2 c = search needs
@@ -54,12 +49,7 @@ same-length : tie.Need-same-length
 same-length c = search needs
 
 returns-3 : tie.Need-returns-3
-returns-3 c =
-    let a = (c .before .before .before .before .before .before .before .before .before .before .before .before .before .before .before .args) in
-    let m = words (a .refs .now) (a .postings .now) (a .stopped .now) in
-    let n = (c .before .before .before .before .before .before .before .before .count-of) in
-    let size = length-take-le (n .result) (a .scratch .now) (omega arith) in
-    λ _. record { answered = c .before .ask-filled .ensures ∙ ap (λ (x : Answer). answerWords x) (found-line (a .is-wang) m (a .line .now) _ (size ∙ n .ensures .0)); left = refl }
+returns-3 c = search needs
 
 pub query-spec : {M : Type 1} → statement M
 query-spec =
