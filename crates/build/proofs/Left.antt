@@ -11,7 +11,7 @@ use lib.Seq.{drop-cons, drop-drop}
 use lib.Dec.{eqb, ltb}
 use borrow.Author.Tests.{ltb-true}
 use Rattle.lists.specs.Lists.{some?, member, sum}
-use Rattle.lists.specs.Keys.{under, hasKey, Sorted, placeAll}
+use Rattle.lists.specs.Keys.{under, hasKey, Sorted, placeAll, times}
 use Rattle.lists.specs.Entries.{keyOf as entryKey}
 use Rattle.lists.proofs.Tests.{test}
 use Rattle.lists.proofs.Keep.{keep-map, keep-all, keep-ext, keep-nil, all-of, map-map}
@@ -20,7 +20,7 @@ use Rattle.lists.proofs.Ascending.{ascending-ext}
 use Rattle.build_ranges.specs.Codes.{tabulate, ranksFrom, rankOf, inOrder, Fit}
 use Rattle.build_ranges.proofs.Ranks.{listed-same, sum-more}
 use Rattle.build_ranges.proofs.Order.{ordered-is, keys-ordered}
-use Rattle.build_stops.specs.Over.{keyIn, times, over, overKeys, keysOf, kept}
+use Rattle.build_stops.specs.Over.{keyIn, over, overKeys, keysOf, kept}
 use Rattle.build_stops.proofs.Over.{member-over, ascending-over}
 use Rattle.build_stops.proofs.Stops.{times-keys}
 use Rattle.build_entries.specs.Laid.{laidEntries, rowFor}

@@ -16,8 +16,8 @@ ghost use Rattle.soundness.specs.Scan.{words, lent};
 ghost use Rattle.model.specs.Words.{headWidth, rowWidth};
 ghost use Rattle.build.specs.Answers.{buildingAnswer, buildRefusal, rowsFor};
 use build_stops::Left;
-use postings::at;
-use rows::size;
+use slices::at;
+use slices::size;
 
 // "built", or "refused with a number".
 pub enum Building {
@@ -115,8 +115,8 @@ fn put_postings(
     let left = build_stops::stop_runs(posts, w, m, stops, limit);
     let p = left.postings;
     let k = left.stopped;
-    build_entries::clear_from(posts, w * p);
-    build_entries::clear_from(stops, k);
+    slices::clear_from(posts, w * p);
+    slices::clear_from(stops, k);
     left
 }
 
@@ -138,7 +138,7 @@ fn put_references(
     let n = lengths.len();
     rows::put_header(refs, n as u32, 0, p as u32, k as u32);
     build_entries::put_rows(refs, hashes, w, lengths, rates);
-    build_entries::clear_from(refs, rows::HEAD_WIDTH + rows::ROW_WIDTH * n);
+    slices::clear_from(refs, rows::HEAD_WIDTH + rows::ROW_WIDTH * n);
 }
 
 // Builds a store from the hashes of all recordings, whatever it held.

@@ -6,12 +6,13 @@ use Prim.Native.Nat.{ℕ, suc, _+_, _*_, _-_, _≤_, _<_}
 use native.Mathlib.Nat.{mul-zero, mul-suc, suc-mul, mul-le-mul-left}
 use native.Mathlib.Numerals.{add-one}
 use native.Mathlib.Omega.{arith}
-use lib.ListN.{length, getD, take, drop, set, replicate, length-set, length-drop}
-use lib.Seq.{drop-length, take-suc, take-suc-set, getD-drop, getD-set-same, getD-set-other}
+use lib.ListN.{length, getD, take, drop, set, length-set}
+use lib.Seq.{take-suc, take-suc-set, getD-set-same, getD-set-other}
 use Rattle.lists.specs.Lists.{flat, sum}
 use Rattle.lists.proofs.Keep.{flat-append, flat-one}
 use Rattle.model.specs.Words.{headWidth, rowWidth}
-use Rattle.postings.specs.Retain.{cleared}
+use Rattle.slices.specs.Parts.{pasted}
+use Rattle.slices.proofs.Pasted.{front-pasted, same-pasted}
 use Rattle.build_ranges.specs.Codes.{tabulate}
 use Rattle.build_ranges.proofs.Ranks.{listed-more}
 use Rattle.build_entries.specs.Laid.{SameFrom, StartsTo}
@@ -19,24 +20,6 @@ use Rattle.build_entries.specs.Laid.{SameFrom, StartsTo}
 -- a word more behind what the list begins with
 pub put-behind : (s : List ℕ) (at x : ℕ) (front : List ℕ) → at < length s → take at s ≡ front → take (at + 1) (set s at x) ≡ front ++ x ∷ []
 put-behind s at x front h e = rw (add-one at) (take-suc-set s at x h ∙ ap (λ l. l ++ x ∷ []) e)
-
--- ---- copying
-
-pub copy-none : (dst : List ℕ) (to : ℕ) (src : List ℕ) (from : ℕ) → take (to + 0) dst ≡ take to dst ++ take 0 (drop from src)
-copy-none dst to src from = let e : to + 0 ≡ to = omega arith in rw (e, append-nil)
-
-pub copy-more : (dst₀ dst : List ℕ) (to : ℕ) (src : List ℕ) (from j : ℕ) → to + j < length dst → from + j < length src
-    → take (to + j) dst ≡ take to dst₀ ++ take j (drop from src) → take (to + (j + 1)) (set dst (to + j) (getD src (from + j) 0)) ≡ take to dst₀ ++ take (j + 1) (drop from src)
-copy-more dst₀ dst to src from j h k e =
-    let x : ℕ = getD src (from + j) 0 in
-    let a : to + (j + 1) ≡ to + j + 1 = omega arith in
-    let q : take (suc j) (drop from src) ≡ take j (drop from src) ++ x ∷ [] =
-    take-suc (drop from src) j 0 (rw length-drop (omega arith)) ∙ ap (λ y. take j (drop from src) ++ y ∷ []) (getD-drop from src j 0) in
-    rw (a, add-one j, q) (put-behind dst (to + j) x (take to dst₀ ++ take j (drop from src)) h e ∙ append-assoc (take to dst₀) (take j (drop from src)) (x ∷ []))
-
--- a word stored before what stays
-pub same-more : (a : ℕ) (s₀ s : List ℕ) (at x : ℕ) → at < a → SameFrom a s₀ s → SameFrom a s₀ (set s at x)
-same-more a s₀ s at x h f i l = getD-set-other s at i x 0 (λ e. omega arith) ∙ f i l
 
 -- ---- two and four words
 
@@ -90,12 +73,6 @@ pub entry-ends : (w m t : ℕ) → 1 ≤ w → t < m → w * t + w ≤ (w - 1) *
 entry-ends w m t h l =
     omega (arith, words-of w (suc t) h, mul-suc w t, mul-le-mul-left (w - 1) l)
 
--- ---- zeros
-
-pub cleared-end : (s : List ℕ) (a : ℕ) → cleared s a (length s) ≡ take a s ++ replicate (length s - a) 0
-unfolding cleared
-cleared-end s a = rw (drop-length s, append-nil)
-
 -- ---- first hashes
 
 pub starts-more : (starts lengths : List ℕ) (i total : ℕ) → i < length starts → total ≡ sum (take i lengths) → StartsTo starts lengths i → StartsTo (set starts i total) lengths (i + 1)
@@ -107,15 +84,18 @@ starts-more starts lengths i total h e s k l = go (Rattle.lists.proofs.Tests.le
 
 -- ---- one entry
 
-pub entry-done : (p p′ : List ℕ) (w to key id : ℕ) (rest : List ℕ) → 2 ≤ w → to + w ≤ length p
-    → take (to + 2 + (w - 2)) p′ ≡ take (to + 2) (set (set p to key) (to + 1) id) ++ rest → take (to + w) p′ ≡ take to p ++ key ∷ id ∷ rest
-entry-done p p′ w to key id rest h l e =
+-- the key and the id are set, then the times copied
+pub entry-done : (p p′ : List ℕ) (w to key id : ℕ) (words : List ℕ) (from : ℕ) → 2 ≤ w → to + w ≤ length p → from + (w - 2) ≤ length words
+    → p′ ≡ pasted (set (set p to key) (to + 1) id) (to + 2) words from (w - 2)
+    → (take (to + w) p′ ≡ take to p ++ key ∷ id ∷ take (w - 2) (drop from words)) × SameFrom (to + w) p p′
+entry-done p p′ w to key id words from h l k e =
+    let q = set (set p to key) (to + 1) id in
     let a : to + 2 + (w - 2) ≡ to + w = omega arith in
-    rw a at e ∙ ap (λ m. m ++ rest) (put-two p to key id (omega arith)) ∙ append-assoc (take to p) (key ∷ id ∷ []) rest
-
-pub entry-same : (p p′ : List ℕ) (w to key id : ℕ) → 2 ≤ w → SameFrom (to + 2 + (w - 2)) (set (set p to key) (to + 1) id) p′ → SameFrom (to + w) p p′
-entry-same p p′ w to key id h f i l =
-    f i (omega arith) ∙ getD-set-other (set p to key) (to + 1) i id 0 (λ e. omega arith) ∙ getD-set-other p to i key 0 (λ e. omega arith)
+    let room : to + 2 + (w - 2) ≤ length q = simp length-set (omega arith) in
+    let rest = take (w - 2) (drop from words) in (
+      rw e (rw a at (front-pasted q (to + 2) words from (w - 2) room k) ∙ ap (λ m. m ++ rest) (put-two p to key id (omega arith)) ∙ append-assoc (take to p) (key ∷ id ∷ []) rest),
+      λ i g. rw e (same-pasted q (to + 2) words from (w - 2) room k i (omega arith) ∙ getD-set-other (set p to key) (to + 1) i id 0 (λ e. omega arith) ∙ getD-set-other p to i key 0 (λ e. omega arith)),
+    )
 
 -- ---- rows, one behind the other
 

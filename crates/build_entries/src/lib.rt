@@ -3,7 +3,7 @@ ghost use mathlib.Core.Path.{_≡_};
 ghost use mathlib.Core.Bool.{cond};
 ghost use mathlib.Core.List.{[], _∷_, _++_, map};
 ghost use Prim.Native.Nat.{_+_, _*_, _-_, _≤_};
-ghost use lib.ListN.{length, take, drop, getD, replicate};
+ghost use lib.ListN.{length, take, drop, getD};
 ghost use Rattle.lists.specs.Lists.{sum, flat, All};
 ghost use Rattle.build_ranges.specs.Codes.{Fit, tabulate, ranksFrom};
 ghost use Rattle.build_sort.specs.Digits.{Readable};
@@ -11,21 +11,8 @@ ghost use Rattle.model.specs.Fingerprints.{hashesOf};
 ghost use Rattle.model.specs.Rows.{hasRmax, largestAnchor};
 ghost use Rattle.model.specs.Words.{headWidth, rowWidth};
 ghost use Rattle.build_entries.specs.Laid.{entryOf, entryBy, SameFrom, laidEntries, StartsTo, rowFor};
-use postings::at;
-use rows::size;
-
-// n words of src from `from` on go to dst at `to`.
-fn copy_words(dst: &mut [u32], to: usize, src: &[u32], from: usize, n: usize)
-    requires { ⌜ (to + n ≤ length (now dst)) × (from + n ≤ length (now src)) ⌝ }
-    ensures { λ _. ⌜ (take (to + n) (now (dst .exit)) ≡ take to (now (dst .entry)) ++ take n (drop from (now (src .entry))))
-        × SameFrom (to + n) (now (dst .entry)) (now (dst .exit)) ⌝ }
-{
-    let mut j = 0;
-    while j < n {
-        dst[to + j] = at(src, from + j);
-        j += 1;
-    }
-}
+use slices::at;
+use slices::size;
 
 // Hash i becomes entry e, for recording id.
 fn lay_entry(posts: &mut [u32], w: usize, e: usize, hashes: &[u32], i: usize, id: u32)
@@ -37,7 +24,7 @@ fn lay_entry(posts: &mut [u32], w: usize, e: usize, hashes: &[u32], i: usize, id
     let from = (w - 1) * i;
     posts[to] = at(hashes, from);
     posts[to + 1] = id;
-    copy_words(posts, to + 2, hashes, from + 1, w - 2);
+    slices::copy_words(posts, to + 2, hashes, from + 1, w - 2);
 }
 
 // The first hash of each recording.
@@ -108,15 +95,6 @@ pub fn lay_all(posts: &mut [u32], w: usize, hashes: &[u32], lengths: &[u32])
     let m = fill_ranks(posts, lengths);
     build_sort::sort_ranks(posts, m, hashes, v, &starts);
     lay_ranks(posts, w, m, hashes, &starts);
-}
-
-// Zeros from a on.
-pub fn clear_from(s: &mut [u32], a: usize)
-    requires { ⌜ a ≤ length (now s) ⌝ }
-    ensures { λ _. ⌜ now (s .exit) ≡ take a (now (s .entry)) ++ replicate (length (now (s .entry)) - a) 0 ⌝ }
-{
-    let end = s.len();
-    postings::clear(s, a, end);
 }
 
 // r_max of the recording whose n hashes stand from `start` on.

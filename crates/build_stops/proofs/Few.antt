@@ -9,11 +9,11 @@ use lib.ListN.{length, length-map}
 use lib.Dec.{eqb, ltb}
 use borrow.Author.Tests.{ltb-true, le-ltb, ne-eqb}
 use Rattle.lists.specs.Lists.{keep, All, sum}
-use Rattle.lists.specs.Keys.{Ascending}
+use Rattle.lists.specs.Keys.{Ascending, times}
 use Rattle.lists.proofs.Tests.{test}
 use Rattle.lists.proofs.Keep.{all-imp, all-both, all-of-key}
 use Rattle.build_ranges.specs.Codes.{inOrder, Fit}
-use Rattle.build_stops.specs.Over.{keyIn, times, overKeys}
+use Rattle.build_stops.specs.Over.{keyIn, overKeys}
 use Rattle.build_stops.proofs.Over.{member-over, ascending-over}
 use Rattle.build_stops.proofs.Walk.{length-codes}
 

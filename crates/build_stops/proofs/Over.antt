@@ -8,12 +8,12 @@ use lib.ListN.{length, length-append}
 use lib.Dec.{eqb, ltb}
 use borrow.Author.Tests.{ltb-true, eqb-true, eqb-false, eq-eqb, ne-eqb, lt-ltb, le-ltb}
 use Rattle.lists.specs.Lists.{keep, some?, member, insertKey, All}
-use Rattle.lists.specs.Keys.{under, Ascending}
+use Rattle.lists.specs.Keys.{under, Ascending, times}
 use Rattle.lists.proofs.Tests.{test, not-both, both-ways}
 use Rattle.lists.proofs.Keep.{keep-append, keep-one, keep-none, all-imp, all-append}
 use Rattle.lists.proofs.Place.{under-none}
 use Rattle.lists.proofs.Ascending.{member-insertKey, ascending-insertKey, ascending-ext}
-use Rattle.build_stops.specs.Over.{times, keysPassing, over, overKeys, Counted}
+use Rattle.build_stops.specs.Over.{keysPassing, over, overKeys, Counted}
 
 pub ascending-passing : (t : ℕ → Bool) (l : List ℕ) → Ascending (λ k. k) (keysPassing t l)
 unfolding keysPassing

@@ -12,12 +12,12 @@ use lib.Seq.{drop-drop, getD-drop, take-suc-set}
 use lib.Dec.{ltb}
 use borrow.Author.Tests.{lt-ltb, le-ltb}
 use Rattle.lists.specs.Lists.{keep, member, All, flat}
-use Rattle.lists.specs.Keys.{hasKey}
+use Rattle.lists.specs.Keys.{hasKey, times}
 use Rattle.lists.specs.Entries.{entries, keyOf, keyAt, keysAscend}
 use Rattle.lists.proofs.Tests.{le-or-lt}
 use Rattle.lists.proofs.Keep.{all-make, length-keep, flat-append}
 use Rattle.lists.proofs.Entries.{entries-append, entries-at, entry-key, length-entries, flat-entries, keys-le}
-use Rattle.build_stops.specs.Over.{times, over, overKeys, keysOf, kept, RunEnd}
+use Rattle.build_stops.specs.Over.{over, overKeys, keysOf, kept, RunEnd}
 use Rattle.build_stops.proofs.Over.{member-over, ascending-over}
 use Rattle.build_stops.proofs.Stops.{stops-run, kept-run, run-times, stops-all}
 

@@ -8,11 +8,11 @@ use lib.ListN.{length, length-map}
 use lib.Dec.{eqb, ltb}
 use borrow.Author.Tests.{ltb-true, ltb-false, eqb-true, eqb-false, eq-eqb, ne-eqb}
 use Rattle.lists.specs.Lists.{keep, some?, member, All}
-use Rattle.lists.specs.Keys.{under, hasKey, Ascending}
+use Rattle.lists.specs.Keys.{under, hasKey, Ascending, times}
 use Rattle.lists.specs.Entries.{keyOf}
 use Rattle.lists.proofs.Tests.{test}
 use Rattle.lists.proofs.Keep.{keep-append, keep-all, keep-none, keep-map, all-imp, all-of-key, some-none, some-map}
-use Rattle.build_stops.specs.Over.{times, overKeys, keysOf, kept}
+use Rattle.build_stops.specs.Over.{overKeys, keysOf, kept}
 use Rattle.build_stops.proofs.Over.{times-none, member-over}
 
 -- ---- times among entries

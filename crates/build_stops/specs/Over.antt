@@ -6,16 +6,12 @@ use Prim.Native.Nat.{ℕ, _/_, _≤_, _<_}
 use lib.ListN.{length}
 use lib.Dec.{ltb}
 use Rattle.lists.specs.Lists.{All, insertKey, keep}
-use Rattle.lists.specs.Keys.{under}
+use Rattle.lists.specs.Keys.{times}
 use Rattle.lists.specs.Entries.{keyOf, keyAt}
 
 -- the key in a code
 abbrev pub keyIn : ℕ → ℕ
 keyIn c = c / 33554432
-
--- how often k stands among the keys l
-abbrev pub times : ℕ → List ℕ → ℕ
-times k l = length (under (λ x. x) k l)
 
 -- the keys of l that pass a test, each once, ascending
 unfoldable pub keysPassing : (ℕ → Bool) → List ℕ → List ℕ

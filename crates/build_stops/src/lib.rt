@@ -95,7 +95,7 @@ pub fn over_room(hashes: &[u32], v: usize, lengths: &[u32], limit: usize, room: 
 }
 
 // Where the entries with the key of entry i end.
-fn run_end(posts: &[u32], w: usize, i: usize, n: usize) -> usize
+fn key_run_end(posts: &[u32], w: usize, i: usize, n: usize) -> usize
     requires { ⌜ (1 ≤ w) × (i < n) × (w * n ≤ length (now posts)) ⌝ }
     ensures { λ r. ⌜ RunEnd (now (posts .entry)) w i n r ⌝ }
 {
@@ -129,13 +129,13 @@ pub fn stop_runs(posts: &mut [u32], w: usize, n: usize, stops: &mut [u32], limit
     let mut q = 0;
     let mut k = 0;
     while i < n {
-        let e = run_end(posts, w, i, n);
+        let e = key_run_end(posts, w, i, n);
         if limit < e - i {
             stops[k] = maps::key_at(posts, w, i);
             k += 1;
             i = e;
         } else {
-            postings::move_down(posts, w * q, w * i, w * (e - i));
+            slices::move_down(posts, w * q, w * i, w * (e - i));
             q += e - i;
             i = e;
         }

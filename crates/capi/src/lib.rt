@@ -52,7 +52,7 @@ pub extern "C" fn floats_f64_to_f32(x: u64) -> u32
             return floats::f32_to_bits(floats::f64_to_f32(v));
         }
     }
-    0x7FC0_0000
+    floats::NAN_BITS
 }
 
 #[no_mangle]
@@ -182,7 +182,7 @@ pub extern "C" fn matching_wang_prominence(peak: u64, total: u64, width: u64) ->
     if peak <= total {
         return floats::f32_to_bits(matching::wang_prominence(peak, total, width));
     }
-    0x7FC0_0000
+    floats::NAN_BITS
 }
 
 #[no_mangle]

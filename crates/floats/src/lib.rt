@@ -209,12 +209,15 @@ pub fn f64_from_bits(word: u64) -> f64
     f64::from_bits(word)
 }
 
-// The bit pattern of a float: of a NaN 7FC00000, hexadecimal.
+// The one bit pattern that is written for a NaN.
+pub const NAN_BITS: u32 = 0x7FC0_0000;
+
+// The bit pattern of a float.
 pub fn f32_to_bits(x: f32) -> u32
     ensures { λ r. ⌜ r ≡ Ieee.toBits binary32 x ⌝ }
 {
     if x != x {
-        return 0x7FC0_0000;
+        return NAN_BITS;
     }
     f32::to_bits(x)
 }

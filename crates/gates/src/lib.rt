@@ -10,7 +10,7 @@ use matching::TimeOffset;
 pub fn admitted(rate: f32, fps: f32, min_votes: u32, votes: usize) -> bool
     ensures { λ r. ⌜ r ≡ admits rate fps «min_votes» votes ⌝ }
 {
-    matching::frames_per_sec_compatible(rate, fps) & (maps::wide(min_votes) <= votes as u64)
+    matching::frames_per_sec_compatible(rate, fps) & (slices::wide(min_votes) <= votes as u64)
 }
 
 // The result of a candidate at its peak.

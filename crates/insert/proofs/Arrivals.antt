@@ -8,7 +8,7 @@ use lib.ListN.{length, getD, length-append, length-map}
 use lib.Dec.{eqb, ltb}
 use borrow.Author.Tests.{eqb-true, ne-eqb, le-ltb, not-true}
 use Rattle.lists.specs.Lists.{keep, member, All}
-use Rattle.lists.specs.Keys.{under, hasKey, Sorted, Ascending, placeAll}
+use Rattle.lists.specs.Keys.{under, hasKey, Sorted, Ascending, placeAll, times}
 use Rattle.lists.specs.Entries.{entries, entryAt, keyOf as firstWord, keyAt}
 use Rattle.lists.proofs.Tests.{test, not-both}
 use Rattle.lists.proofs.Keep.{keep-map, keep-ext, keep-none, all-imp, all-kept, map-map, map-same, all-of}
@@ -20,7 +20,7 @@ use Rattle.model.specs.Index.{Posting, Index, keyOf, posted, unskipped, exceeds
 use Rattle.model.specs.Words.{postingWords}
 use Rattle.model.proofs.Parts.{ascending-stopKeys}
 use Rattle.model.proofs.Agree.{stoppedAfter-is}
-use Rattle.insert_merge.specs.Order.{upTo, unstoppedAt, taken, ordered, times, OverKeys, entryOf, entriesOf, without}
+use Rattle.insert_merge.specs.Order.{upTo, unstoppedAt, taken, ordered, OverKeys, entryOf, entriesOf, without}
 use Rattle.insert_merge.proofs.Ordered.{under-ordered}
 use Rattle.insert.proofs.Times.{some-kept, keep-keep, times-map, member-placeAll, ascending-placeAll, placeAll-same, keep-placeAll}
 

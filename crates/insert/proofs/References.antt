@@ -15,7 +15,7 @@ use Rattle.lists.proofs.Keep.{length-flat, flat-append, flat-one, all-append}
 use Rattle.model.specs.Rows.{Row}
 use Rattle.model.specs.Index.{Index, newId, popped, putRow}
 use Rattle.model.specs.Calls.{Sizes}
-use Rattle.model.specs.Words.{rowWords, rowEntries, write, headWidth, rowWidth}
+use Rattle.model.specs.Words.{rowWords, rowEntries, write, headWidth, rowWidth, atVacant}
 use Rattle.model.proofs.Words.{wide-rows, length-rows, row-at}
 use Rattle.model.proofs.Written.{entry-word-is}
 use Rattle.rows.specs.References.{headerPut, rowPut, entryPut, headed}
@@ -33,12 +33,12 @@ references-headed w z x h =
 
 -- ---- the last vacant entry goes
 
-entry-gone : (o : Option Row) (e : ℕ) → set (rowWords o e) 3 0 ≡ rowWords o 0
+entry-gone : (o : Option Row) (e : ℕ) → set (rowWords o e) atVacant 0 ≡ rowWords o 0
 entry-gone none e = refl
 entry-gone (some r) e = refl
 
 vacant-less : (os : List (Option Row)) (es : List ℕ) (i : ℕ) → length es ≡ suc i → length es ≤ length os
-    → set (rowEntries os es) i (set (getD (rowEntries os es) i []) 3 0) ≡ rowEntries os (take i es)
+    → set (rowEntries os es) i (set (getD (rowEntries os es) i []) atVacant 0) ≡ rowEntries os (take i es)
 unfolding rowEntries
 vacant-less [] es i h l = absurd (omega arith)
 vacant-less (o ∷ os) [] i h l = absurd (omega arith)
@@ -89,7 +89,7 @@ module _ (rs : List (Option Row)) (vs : List ℕ) (r : Row) (R p k p′ k′ : �
       ∙ ap (λ (m : List ℕ). headerPut m n (v - 1) p′ k′)
       (row-headed n v p k es1 rest id (r .rate) (r .rmax) 1 (wide-rows rs (popped vs)) (omega (arith, l1))
       ∙ ap (λ (e : ℕ). headed n v p k (set es1 id (r .rate ∷ r .rmax ∷ 1 ∷ e ∷ [])) rest)
-      (ap (λ (m : List ℕ). getD m 3 0) (row-at rs (popped vs) id inside) ∙ entry-word-is (getD rs id none) (getD (popped vs) id 0))
+      (ap (λ (m : List ℕ). getD m atVacant 0) (row-at rs (popped vs) id inside) ∙ entry-word-is (getD rs id none) (getD (popped vs) id 0))
       ∙ ap (λ (m : List (List ℕ)). headed n v p k m rest) (sym (rows-set rs (popped vs) id (some r))))
       ∙ header-headed n v p k (rowEntries (set rs id (some r)) (popped vs)) rest n (v - 1) p′ k′
 
@@ -111,7 +111,7 @@ module _ (rs : List (Option Row)) (vs : List ℕ) (r : Row) (R p k p′ k′ : �
       ∙ ap (λ (m : List ℕ). headerPut m (n + 1) 0 p′ k′)
       (row-headed n 0 p k (es ++ blank ∷ []) rest n (r .rate) (r .rmax) 1 wide (omega arith)
       ∙ ap (λ (m : List (List ℕ)). headed n 0 p k m rest)
-      (ap (λ (y : List ℕ). set (es ++ blank ∷ []) n (r .rate ∷ r .rmax ∷ 1 ∷ getD y 3 0 ∷ [])) (getD-at es blank [] [] n l)
+      (ap (λ (y : List ℕ). set (es ++ blank ∷ []) n (r .rate ∷ r .rmax ∷ 1 ∷ getD y atVacant 0 ∷ [])) (getD-at es blank [] [] n l)
       ∙ set-at es blank [] (r .rate ∷ r .rmax ∷ 1 ∷ 0 ∷ []) n l ∙ sym (rows-snoc rs (some r))))
       ∙ header-headed n 0 p k (rowEntries (rs ++ some r ∷ []) []) rest (n + 1) 0 p′ k′)
 

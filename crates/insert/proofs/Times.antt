@@ -8,12 +8,11 @@ use lib.ListN.{length, length-append, length-map}
 use lib.Dec.{eqb, ltb}
 use borrow.Author.Tests.{eqb-true, eqb-false, ne-eqb, lt-ltb, ltb-true, ltb-false}
 use Rattle.lists.specs.Lists.{keep, some?, member, All}
-use Rattle.lists.specs.Keys.{under, Sorted, Ascending, placeAll}
+use Rattle.lists.specs.Keys.{under, Sorted, Ascending, placeAll, times}
 use Rattle.lists.proofs.Tests.{test}
 use Rattle.lists.proofs.Keep.{keep-none, keep-append, all-imp}
 use Rattle.lists.proofs.Place.{sorted-ext, sorted-keep, sorted-placeAll, under-placeAll, under-map}
 use Rattle.lists.proofs.Ascending.{ascending-sorted}
-use Rattle.insert_merge.specs.Order.{times}
 use Rattle.insert_merge.proofs.Runs.{times-here}
 
 -- one passes exactly if what is kept is not empty

@@ -16,7 +16,8 @@ ghost use Rattle.insert_merge.specs.Order.{placesIn};
 ghost use Rattle.soundness.specs.Scan.{lent};
 ghost use Rattle.insert.specs.Writing.{Placing, placedEntries, Stopping, recorded, Recording, idIn, postingsIn, Writable};
 ghost use Rattle.insert.specs.Insert.{insertionAnswer, Ready, noRow};
-use rows::size;
+use rows::Counts;
+use slices::size;
 
 // "stored with an id", or "refused with a number".
 pub enum Insertion {
@@ -57,31 +58,24 @@ fn stop_keys(stops: &mut [u32], k: usize, overs: &[u32], n: usize)
     insert_merge::merge_in(stops, 1, k, overs, n);
 }
 
-// The id of a new recording, where n rows and v vacant entries are in use.
-fn new_id(refs: &[u32], n: usize, v: usize) -> usize
-    requires { ⌜ (v ≤ n) × (headWidth + rowWidth * n ≤ length (now refs)) ⌝ }
-    ensures { λ r. ⌜ r ≡ cond (eqb v 0) n (rowWord (now (refs .entry)) (v - 1) atVacant) ⌝ }
+// The id of a new recording, from what is in use.
+fn new_id(refs: &[u32], c: Counts) -> usize
+    requires { ⌜ (c .vacant ≤ c .rows) × (headWidth + rowWidth * c .rows ≤ length (now refs)) ⌝ }
+    ensures { λ r. ⌜ r ≡ cond (eqb (c .vacant) 0) (c .rows) (rowWord (now (refs .entry)) (c .vacant - 1) atVacant) ⌝ }
 {
-    if v == 0 {
-        return n;
+    if c.vacant == 0 {
+        return c.rows;
     }
-    size(rows::row_word(refs, v - 1, rows::AT_VACANT))
+    size(rows::row_word(refs, c.vacant - 1, rows::AT_VACANT))
 }
 
-// Recording id is written into the references, where n rows and v vacant entries are in use; p postings and k stopped keys are left.
-fn put_recording(
-    refs: &mut [u32],
-    n: usize,
-    v: usize,
-    id: usize,
-    rate: u32,
-    rmax: u32,
-    p: usize,
-    k: usize,
-)
-    requires { ⌜ Recording (now refs) n v id p k ⌝ }
-    ensures { λ _. ⌜ now (refs .exit) ≡ recorded (now (refs .entry)) n v id rate rmax p k ⌝ }
+// Recording id is written into the references, from what is in use; p postings and k stopped keys are left.
+fn put_recording(refs: &mut [u32], c: Counts, id: usize, rate: u32, rmax: u32, p: usize, k: usize)
+    requires { ⌜ Recording (now refs) (c .rows) (c .vacant) id p k ⌝ }
+    ensures { λ _. ⌜ now (refs .exit) ≡ recorded (now (refs .entry)) (c .rows) (c .vacant) id rate rmax p k ⌝ }
 {
+    let n = c.rows;
+    let v = c.vacant;
     if v == 0 {
         rows::put_row(refs, id, rate, rmax, 1);
         rows::put_header(refs, (n + 1) as u32, 0, p as u32, k as u32);
@@ -116,13 +110,12 @@ fn write_recording(
 {
     let h = rows::header(refs);
     let k = h.stopped;
-    let id = new_id(refs, h.rows, h.vacant);
+    let id = new_id(refs, h);
     let q = place_news(posts, w, h.postings, hashes, id as u32, order, m, overs, n);
     stop_keys(stops, k, overs, n);
     put_recording(
         refs,
-        h.rows,
-        h.vacant,
+        h,
         id,
         rows::canonical_rate(rate),
         rows::row_max(hashes, w),

@@ -1,4 +1,3 @@
-pub mod Members
 pub mod Taken
 pub mod Pasted
 pub mod Writing

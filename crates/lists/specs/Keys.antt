@@ -2,6 +2,7 @@
 use mathlib.Core.Bool.{Bool, cond}
 use mathlib.Core.List.{List, [], _∷_}
 use Prim.Native.Nat.{ℕ, suc, _≤_, _<_}
+use lib.ListN.{length}
 use lib.Dec.{eqb, leb, ltb}
 use Rattle.lists.specs.Lists.{keep, some?, All}
 
@@ -43,3 +44,7 @@ module _ {A : Type 0} (key : A → ℕ) where
   unfoldable pub upper : ℕ → List A → ℕ
   upper k [] = 0
   upper k (x ∷ xs) = cond (leb (key x) k) (suc (upper k xs)) 0
+
+-- how often a key stands in a list of keys
+abbrev pub times : ℕ → List ℕ → ℕ
+times k l = length (under (λ x. x) k l)

@@ -5,3 +5,4 @@ pub mod Lists
 pub mod Words
 pub mod Signed
 pub mod Entries
+pub mod Members

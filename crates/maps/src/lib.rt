@@ -4,18 +4,12 @@ ghost use mathlib.Core.Bool.{true};
 ghost use Prim.Native.Nat.{_+_, _*_, _-_, _≤_, _<_, _^_};
 ghost use lib.IntN.{pos};
 ghost use lib.ListN.{length, getD, take, drop, set, replicate};
-ghost use Rattle.lists.specs.Lists.{flat};
+ghost use Rattle.lists.specs.Lists.{flat, member};
 ghost use Rattle.lists.specs.Entries.{entries, keyOf, keyAt, keysAscend};
-ghost use Rattle.lists.specs.Keys.{under};
+ghost use Rattle.lists.specs.Keys.{under, Ascending};
 ghost use Rattle.maps.specs.Words.{natOf};
 ghost use Rattle.maps.specs.Entries.{firstAt, Split};
-
-// A word as a wider number.
-pub fn wide(x: u32) -> u64
-    ensures { λ r. ⌜ (r ≡ x) × (r < 2 ^ 32) ⌝ }
-{
-    x as u64
-}
+use slices::wide;
 
 // The key of entry i, of entries w words wide.
 pub fn key_at(posts: &[u32], w: usize, i: usize) -> u32
@@ -84,6 +78,18 @@ pub fn first_from(posts: &[u32], w: usize, p: usize, from: usize, key: u64) -> u
         reach = 2 * reach;
     }
     search(posts, w, lo, p, key)
+}
+
+// Whether a key is among the first n of s, which ascend.
+pub fn contains(s: &[u32], n: usize, key: u32) -> bool
+    requires { ⌜ (n ≤ length (now s)) × Ascending (λ k. k) (take n (now s)) ⌝ }
+    ensures { λ r. ⌜ r ≡ member key (take n (now (s .entry))) ⌝ }
+{
+    let i = first_at(s, 1, n, wide(key));
+    if n <= i {
+        return false;
+    }
+    slices::at(s, i) == key
 }
 
 fn between(s: &[u32], a: usize, e: usize) -> &[u32]

@@ -36,9 +36,9 @@ use Rattle.model.proofs.Written.{row-word, id-word, anchor-word}
 -- what is asked of a row's words, the vacant entry aside
 pub record FineRow (e : List ℕ) : Type 0 where
   pub long : length e ≡ rowWidth
-  pub live : getD e 2 0 ≤ 1
-  pub rate : getD e 2 0 ≡ 0 → getD e 0 0 ≡ noRate
-  pub rmax : getD e 2 0 ≡ 0 → getD e 1 0 ≡ 0
+  pub live : getD e atLive 0 ≤ 1
+  pub rate : getD e atLive 0 ≡ 0 → getD e atRate 0 ≡ noRate
+  pub rmax : getD e atLive 0 ≡ 0 → getD e atRmax 0 ≡ 0
 
 -- 0 or 1
 bit {ℓ} : {C : Type ℓ} (x : ℕ) → x ≤ 1 → (x ≡ 0 → C) → (x ≡ 1 → C) → C

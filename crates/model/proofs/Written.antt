@@ -44,37 +44,37 @@ anchor-word w ps i e = entry-word w i ps 2 (omega (arith, eqb-true w 3 e))
 
 -- ---- a row's words, by what it says
 
-live-word : (o : Option Row) (e : ℕ) → getD (rowWords o e) 2 0 ≤ 1
+live-word : (o : Option Row) (e : ℕ) → getD (rowWords o e) atLive 0 ≤ 1
 live-word none e = omega arith
 live-word (some r) e = omega arith
 
-dead-word : (o : Option Row) (e : ℕ) → o ≡ none → getD (rowWords o e) 2 0 ≡ 0
+dead-word : (o : Option Row) (e : ℕ) → o ≡ none → getD (rowWords o e) atLive 0 ≡ 0
 dead-word none e h = refl
 dead-word (some r) e h = let z : _≡_ {A = ℕ} 0 1 = cc in absurd (omega arith)
 
-pub entry-word-is : (o : Option Row) (e : ℕ) → getD (rowWords o e) 3 0 ≡ e
+pub entry-word-is : (o : Option Row) (e : ℕ) → getD (rowWords o e) atVacant 0 ≡ e
 entry-word-is none e = refl
 entry-word-is (some r) e = refl
 
-dead-rate-word : (o : Option Row) (e : ℕ) → getD (rowWords o e) 2 0 ≡ 0 → getD (rowWords o e) 0 0 ≡ noRate
+dead-rate-word : (o : Option Row) (e : ℕ) → getD (rowWords o e) atLive 0 ≡ 0 → getD (rowWords o e) atRate 0 ≡ noRate
 dead-rate-word none e h = refl
 dead-rate-word (some r) e h = absurd (omega arith)
 
-dead-rmax-word : (o : Option Row) (e : ℕ) → getD (rowWords o e) 2 0 ≡ 0 → getD (rowWords o e) 1 0 ≡ 0
+dead-rmax-word : (o : Option Row) (e : ℕ) → getD (rowWords o e) atLive 0 ≡ 0 → getD (rowWords o e) atRmax 0 ≡ 0
 dead-rmax-word none e h = refl
 dead-rmax-word (some r) e h = absurd (omega arith)
 
-rate-word : (w : ℕ) (o : Option Row) (e : ℕ) → goodRow w o ≡ true → (getD (rowWords o e) 2 0 ≡ 0 → ⊥) → isCanonical (getD (rowWords o e) 0 0) ≡ true
+rate-word : (w : ℕ) (o : Option Row) (e : ℕ) → goodRow w o ≡ true → (getD (rowWords o e) atLive 0 ≡ 0 → ⊥) → isCanonical (getD (rowWords o e) atRate 0) ≡ true
 unfolding rowSound
 rate-word w none e g h = absurd (h refl)
 rate-word w (some r) e g h = and-left (isCanonical (r .rate)) _ g
 
-rmax-word : (w : ℕ) (o : Option Row) (e : ℕ) → goodRow w o ≡ true → hasRmax w ≡ false → getD (rowWords o e) 1 0 ≡ 0
+rmax-word : (w : ℕ) (o : Option Row) (e : ℕ) → goodRow w o ≡ true → hasRmax w ≡ false → getD (rowWords o e) atRmax 0 ≡ 0
 unfolding rowSound
 rmax-word w none e g h = refl
 rmax-word w (some r) e g h = eqb-true (r .rmax) 0 (or-else (hasRmax w) (eqb (r .rmax) 0) (and-right (isCanonical (r .rate)) _ g) h)
 
-dead-test : (o : Option Row) (e : ℕ) → eqb (getD (rowWords o e) 2 0) 0 ≡ isDead o
+dead-test : (o : Option Row) (e : ℕ) → eqb (getD (rowWords o e) atLive 0) 0 ≡ isDead o
 dead-test none e = refl
 dead-test (some r) e = refl
 
@@ -137,11 +137,11 @@ module _ (w : ℕ) (z : Sizes) (x : Index) (w2 : 2 ≤ w) (h : Sound w z x) wher
       ))
       (le-or-lt n (p .id))
     where
-      live : (o : Option Row) (e : ℕ) → goodHash w o (p .hash) ≡ true → getD (rowWords o e) 2 0 ≡ 1
+      live : (o : Option Row) (e : ℕ) → goodHash w o (p .hash) ≡ true → getD (rowWords o e) atLive 0 ≡ 1
       live none e g = absurd (not-both g refl)
       live (some r) e g = refl
 
-      below : (o : Option Row) (e : ℕ) → goodHash w o (p .hash) ≡ true → hasRmax w ≡ true → anchor (p .hash) ≤ getD (rowWords o e) 1 0
+      below : (o : Option Row) (e : ℕ) → goodHash w o (p .hash) ≡ true → hasRmax w ≡ true → anchor (p .hash) ≤ getD (rowWords o e) atRmax 0
       below none e g t = absurd (not-both g refl)
       below (some r) e g t = leb-true (anchor (p .hash)) (r .rmax) (or-else (not (hasRmax w)) (leb (anchor (p .hash)) (r .rmax)) g (ap not t))
 

@@ -60,7 +60,7 @@ fn result(
         (peakOffset (now (s .entry)) n (q .cfg .«offset_tolerance_frames») (p .at)) fps (timeScaleOf (q .cfg) (scale (now (s .entry)) (p .at))) ⌝ }
 {
     let cfg = q.cfg;
-    let frames = hough::panako_peak_offset(s, n, maps::wide(cfg.offset_tolerance_frames), p.at);
+    let frames = hough::panako_peak_offset(s, n, slices::wide(cfg.offset_tolerance_frames), p.at);
     let scale = time_scale_of(cfg, hough::scale_at(s, n, p.at));
     gates::result(score, p.votes, prominence, frames, fps, scale)
 }
@@ -71,12 +71,12 @@ fn weigh(s: &[i64], n: usize, q: PanakoQuery, fps: f32) -> Verdict
     ensures { λ r. ⌜ r ≡ verdictOf (passing (peakGates (thresholdsOf q) (atPeak (seenOf q (now (s .entry)) n))) (resultOf q fps (seenOf q (now (s .entry)) n))) ⌝ }
 {
     let cfg = q.cfg;
-    let tol = maps::wide(cfg.offset_tolerance_frames);
+    let tol = slices::wide(cfg.offset_tolerance_frames);
     let mut sums = [0u64; 32];
     hough::few_sums(&mut sums, s, n, tol);
     let p = hough::panako_hough_peak(s, n, tol, &sums);
     let votes = p.votes;
-    if votes < maps::wide(cfg.min_votes) {
+    if votes < slices::wide(cfg.min_votes) {
         return Verdict::Barred;
     }
     let prominence = hough::panako_prominence(s, n, tol, p, &sums);

@@ -50,7 +50,7 @@ fn main_votes(s: &mut [i64], v: usize, q: PanakoQuery) -> usize
     ensures { λ r. ⌜ (take r (now (s .exit)) ≡ mainIn q (take v (now (s .entry)))) × (r ≤ v) ⌝ }
 {
     let cfg = q.cfg;
-    main_votes::keep_main(s, v, LOWEST, 52, maps::wide(cfg.min_votes))
+    main_votes::keep_main(s, v, LOWEST, 52, slices::wide(cfg.min_votes))
 }
 
 // The bins of the first v words, where these are votes of one recording and the bins are few, as in most queries that are answered: no order is asked

@@ -268,5 +268,5 @@ pub fn put_vote(s: &mut [i64], i: usize, id: u64, bin: u32, offset: i64)
     requires { ⌜ (i < length (now s)) × (id < 2 ^ 12) × (bin < 2 ^ 12) × InRange offset ⌝ }
     ensures { λ _. ⌜ now (s .exit) ≡ set (now (s .entry)) i (wordOf id (record { bin = bin; offset = offset })) ⌝ }
 {
-    s[i] = lowered(pack(id, maps::wide(bin), place_of(offset)));
+    s[i] = lowered(pack(id, slices::wide(bin), place_of(offset)));
 }

@@ -105,7 +105,7 @@ fn put_pair(
         × (take r (now (s .exit)) ≡ take at (now (s .entry)) ++ wordsWith g qa qc (entryAt 5 j (now (part .entry)))) ⌝ }
 {
     let k = 5 * j;
-    let id = maps::wide(part[k + 1]);
+    let id = slices::wide(part[k + 1]);
     match panako_vote::pair_vote(g, qa, qc, part[k + 2], part[k + 4]) {
         Vote::Nothing => at,
         Vote::At { bin, offset } => {

@@ -14,8 +14,9 @@ use Rattle.lists.specs.Entries.{entries, entryAt, padded}
 use Rattle.lists.proofs.Tests.{le-or-lt}
 use Rattle.lists.proofs.Keep.{keep-append, keep-all, flat-append, all-make}
 use Rattle.lists.proofs.Entries.{stride-more, entries-append, entries-at, length-entries, entry-word, flat-entries, keep-suc}
-use Rattle.postings.specs.Retain.{moved, cleared, unnamed, staying, retained, Within, Until}
-use Rattle.postings.proofs.Moves.{length-moved, take-moved, drop-behind}
+use Rattle.slices.specs.Parts.{pasted, cleared}
+use Rattle.slices.proofs.Moved.{length-moved, take-moved, drop-behind}
+use Rattle.postings.specs.Retain.{unnamed, staying, retained, Within, Until}
 
 -- s is s₀ after i of its entries: those that stay stand in front, in q entries, and what stands behind the i is as it was
 pub record Done (w f : ℕ) (xs s₀ s : List ℕ) (i q : ℕ) : Type 0 where
@@ -83,7 +84,7 @@ module _ (w f : ℕ) (xs s₀ s : List ℕ) (p i q : ℕ) (within : Within w p f
 
     -- the run is moved
     abbrev after : List ℕ
-    after = moved s (w * q) (w * i) (w * run)
+    after = pasted s (w * q) s (w * i) (w * run)
 
     run-stays : staying w e f xs s₀ ≡ staying w i f xs s₀ ++ entries w run (drop (w * i) s₀)
     run-stays = rw place at (staying-run w f xs s₀ i run (λ j l.

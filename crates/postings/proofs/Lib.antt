@@ -1,5 +1,4 @@
 -- Laws that belong to no one function.
-pub mod Moves
 pub mod Names
 pub mod Search
 pub mod Compact

@@ -2,20 +2,11 @@
 use mathlib.Core.Path.{_≡_}
 use mathlib.Core.Bool.{Bool, true, false, not}
 use mathlib.Core.List.{List, _++_}
-use Prim.Native.Nat.{ℕ, _+_, _*_, _-_, _≤_, _<_}
-use lib.ListN.{length, getD, take, drop, replicate}
-use lib.Seq.{paste}
+use Prim.Native.Nat.{ℕ, _+_, _*_, _≤_, _<_}
+use lib.ListN.{length, getD, take, drop}
 use Rattle.lists.specs.Lists.{keep, flat, member}
 use Rattle.lists.specs.Keys.{Ascending}
 use Rattle.lists.specs.Entries.{entries, padded}
-
--- s with the n words from place `from` on copied to place `to`
-unfoldable pub moved : List ℕ → ℕ → ℕ → ℕ → List ℕ
-moved s to from n = paste s to (drop from s) n
-
--- s with zeros from place a up to place b
-unfoldable pub cleared : List ℕ → ℕ → ℕ → List ℕ
-cleared s a b = take a s ++ (replicate (b - a) 0 ++ drop b s)
 
 -- is word f of the entry none of xs?
 unfoldable pub unnamed : ℕ → List ℕ → List ℕ → Bool

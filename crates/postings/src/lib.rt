@@ -1,18 +1,10 @@
 // Entries of w words in a slice: their words, and the compaction that leaves some of them out.
 ghost use mathlib.Core.Path.{_≡_};
-ghost use Prim.Native.Nat.{_+_, _*_, _<_, _≤_, min};
+ghost use Prim.Native.Nat.{_+_, _*_, _<_, min};
 ghost use lib.ListN.{length, getD, take};
 ghost use lib.Dec.{eqb};
 ghost use Rattle.lists.specs.Lists.{member};
-ghost use Rattle.postings.specs.Retain.{moved, cleared, Within, Names, Until, staying, retained};
-
-// Word i of a slice.
-pub fn at(s: &[u32], i: usize) -> u32
-    requires { ⌜ i < length (now s) ⌝ }
-    ensures { λ r. ⌜ r ≡ getD (now (s .entry)) i 0 ⌝ }
-{
-    s[i]
-}
+ghost use Rattle.postings.specs.Retain.{Within, Names, Until, staying, retained};
 
 // Word f of entry i.
 pub fn word(posts: &[u32], w: usize, i: usize, f: usize) -> u32
@@ -20,46 +12,6 @@ pub fn word(posts: &[u32], w: usize, i: usize, f: usize) -> u32
     ensures { λ r. ⌜ r ≡ getD (now (posts .entry)) (w * i + f) 0 ⌝ }
 {
     posts[w * i + f]
-}
-
-// The n words from `from` on go to `to`, which is no later.
-pub fn move_down(s: &mut [u32], to: usize, from: usize, n: usize)
-    requires { ⌜ (to ≤ from) × (from + n ≤ length (now s)) ⌝ }
-    ensures { λ _. ⌜ now (s .exit) ≡ moved (now (s .entry)) to from n ⌝ }
-{
-    if to == from {
-        return;
-    }
-    let mut j = 0;
-    while j < n {
-        let x = s[from + j];
-        s[to + j] = x;
-        j += 1;
-    }
-}
-
-// Zeros from place a up to place b.
-pub fn clear(s: &mut [u32], a: usize, b: usize)
-    requires { ⌜ (a ≤ b) × (b ≤ length (now s)) ⌝ }
-    ensures { λ _. ⌜ now (s .exit) ≡ cleared (now (s .entry)) a b ⌝ }
-{
-    let mut i = a;
-    while i < b {
-        s[i] = 0;
-        i += 1;
-    }
-}
-
-// Whether x is among the first n words of xs, which ascend.
-fn among(xs: &[u32], n: usize, x: u32) -> bool
-    requires { ⌜ Names n (now xs) ⌝ }
-    ensures { λ r. ⌜ r ≡ member x (take n (now (xs .entry))) ⌝ }
-{
-    let j = maps::first_at(xs, 1, n, maps::wide(x));
-    if n <= j {
-        return false;
-    }
-    at(xs, j) == x
 }
 
 // The first entry, from `from` on, whose word f is x; p where there is none.
@@ -93,7 +45,7 @@ fn until_among(
 {
     let mut i = from;
     while i < p {
-        if among(xs, n, word(posts, w, i, f)) {
+        if maps::contains(xs, n, word(posts, w, i, f)) {
             return i;
         }
         i += 1;
@@ -119,7 +71,7 @@ fn kept_until(
         return p;
     }
     if n == 1 {
-        return until_word(posts, w, p, from, f, at(xs, 0));
+        return until_word(posts, w, p, from, f, slices::at(xs, 0));
     }
     until_among(posts, w, p, from, f, xs, n)
 }
@@ -147,10 +99,10 @@ pub fn retain(posts: &mut [u32], w: usize, p: usize, f: usize, xs: &[u32], n: us
     while i < p {
         let e = kept_until(posts, w, p, i, f, xs, n);
         let run = e - i;
-        move_down(posts, w * q, w * i, w * run);
+        slices::move_down(posts, w * q, w * i, w * run);
         q += run;
         i = behind(e, p);
     }
-    clear(posts, w * q, w * p);
+    slices::clear(posts, w * q, w * p);
     q
 }

@@ -16,7 +16,7 @@ ghost use Rattle.query_search.specs.Starts.{Starts, Ends, met, Zeros, Wi
 fn step(x: u32, key: u32, half: u32) -> u32
     ensures { λ r. ⌜ r ≡ when (ltb x key) half ⌝ }
 {
-    let d = std::num::wrapping_sub_u64(maps::wide(x), maps::wide(key));
+    let d = std::num::wrapping_sub_u64(slices::wide(x), slices::wide(key));
     (d >> 32) as u32 & half
 }
 

@@ -18,7 +18,7 @@ use Rattle.lists.proofs.Entries.{length-entries}
 use Rattle.model.specs.Rows.{Row, noRate}
 use Rattle.model.specs.Index.{Posting, Index, withoutId, erased}
 use Rattle.model.specs.Calls.{Sizes}
-use Rattle.model.specs.Words.{rowWords, rowEntries, postingWords, write, headWidth, rowWidth}
+use Rattle.model.specs.Words.{rowWords, rowEntries, postingWords, write, headWidth, rowWidth, atVacant}
 use Rattle.model.proofs.Words.{WidePostings, wide-rows, length-rows, row-at, wide-postings, written-postings}
 use Rattle.model.proofs.Written.{entry-word-is}
 use Rattle.postings.specs.Retain.{unnamed, staying, retained}
@@ -49,7 +49,7 @@ module _ (os : List (Option Row)) (es : List ℕ) (id : ℕ) (here : id < length
   long = length-set os id none
 
   -- the row is dead
-  row-dead : set (rowEntries os es) id (noRate ∷ 0 ∷ 0 ∷ getD (getD (rowEntries os es) id []) 3 0 ∷ []) ≡ rowEntries dead es
+  row-dead : set (rowEntries os es) id (noRate ∷ 0 ∷ 0 ∷ getD (getD (rowEntries os es) id []) atVacant 0 ∷ []) ≡ rowEntries dead es
   row-dead = rw (row-at os es id here, entry-word-is (getD os id none) (getD es id 0)) (sym (rows-set os es id none))
 
   -- and the id the last of the vacant entries
@@ -66,7 +66,7 @@ module _ (os : List (Option Row)) (es : List ℕ) (id : ℕ) (here : id < length
 
 -- the header, a row and a vacant entry written
 vacated-headed : (n v p k : ℕ) (es : List (List ℕ)) (rest : List ℕ) (id held : ℕ) → Wide rowWidth es → id < length es → v < length es
-    → (fs : List (List ℕ)) → set es id (noRate ∷ 0 ∷ 0 ∷ getD (getD es id []) 3 0 ∷ []) ≡ fs → Wide rowWidth fs → length fs ≡ length es
+    → (fs : List (List ℕ)) → set es id (noRate ∷ 0 ∷ 0 ∷ getD (getD es id []) atVacant 0 ∷ []) ≡ fs → Wide rowWidth fs → length fs ≡ length es
     → vacated (headed n v p k es rest) id held ≡ headed n (v + 1) held k (set fs v (set (getD fs v []) 3 id)) rest
 unfolding vacated headed
 vacated-headed n v p k es rest id held h here room fs e g long =

@@ -8,11 +8,11 @@ ghost use Rattle.soundness.specs.Scan.{lent, words};
 ghost use Rattle.model.specs.Words.{headWidth, rowWidth};
 ghost use Rattle.remove.specs.Answers.{countAnswer, removalAnswer};
 ghost use Rattle.remove.specs.Erasing.{vacated, others, othersLeft, Erasable};
-use postings::at;
 use rows::AT_LIVE;
 use rows::NO_RATE;
 use rows::row_word;
-use rows::size;
+use slices::at;
+use slices::size;
 use soundness::refusal_of;
 
 pub enum LiveCount {

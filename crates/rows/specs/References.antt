@@ -2,7 +2,7 @@
 -- Definitions only. Assumes nothing.
 use mathlib.Core.Path.{_≡_}
 use mathlib.Core.List.{List, _∷_, _++_}
-use Prim.Native.Nat.{ℕ, _+_, _*_}
+use Prim.Native.Nat.{ℕ}
 use lib.ListN.{getD, drop, set}
 use Rattle.lists.specs.Lists.{flat}
 use Rattle.model.specs.Words.{headWidth, rowPlace, atRate, atRmax, atLive, atVacant}

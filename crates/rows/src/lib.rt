@@ -10,17 +10,23 @@ ghost use Rattle.model.specs.Rows.{hasRmax, largestAnchor, canonical};
 ghost use Rattle.model.specs.Soundness.{rowWord};
 ghost use Rattle.model.specs.Words.{headWidth, rowWidth, rowPlace};
 ghost use Rattle.rows.specs.References.{CountsOf, headerPut, rowPut, entryPut};
+use slices::size;
 
 // "4 words (rows n, vacant v, postings p, stopped k), then R rows of 4 words: rate bits, r_max, live (1 or 0), vacant entry"
 pub const HEAD_WIDTH: usize = 4;
+
 pub const ROW_WIDTH: usize = 4;
+
 pub const AT_RATE: usize = 0;
+
 pub const AT_RMAX: usize = 1;
+
 pub const AT_LIVE: usize = 2;
+
 pub const AT_VACANT: usize = 3;
 
 // The rate of a dead row, and of a live one that is a NaN.
-pub const NO_RATE: u32 = 0x7FC0_0000;
+pub const NO_RATE: u32 = floats::NAN_BITS;
 
 // What of the store is in use: rows, vacant entries, postings and stopped keys.
 pub struct Counts {
@@ -28,12 +34,6 @@ pub struct Counts {
     pub vacant: usize,
     pub postings: usize,
     pub stopped: usize,
-}
-
-pub fn size(x: u32) -> usize
-    ensures { λ r. ⌜ r ≡ x ⌝ }
-{
-    x as usize
 }
 
 // The first four words.

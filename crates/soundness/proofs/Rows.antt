@@ -4,12 +4,10 @@ use mathlib.Core.Bool.{Bool, true, false, cond, not, _&&_, _||_}
 use mathlib.Core.List.{List}
 use Prim.Native.Nat.{ℕ, _+_, _-_, _%_, _≤_}
 use native.Mathlib.Omega.{arith}
-use lib.ListN.{getD}
 use lib.Dec.{eqb, leb, ltb}
 use lib.Ieee.{binary32, nanBits}
 use lib.Ieee.Bits.{nanBits-above}
 use borrow.Author.Tests.{leb-true, leb-false, lt-ltb, le-ltb, eq-eqb, ne-eqb}
-use Rattle.lists.specs.Entries.{zeroWord}
 use Rattle.lists.proofs.Tests.{test}
 use Rattle.model.specs.Rows.{hasRmax, noRate, isCanonical}
 use Rattle.model.specs.Soundness.{rowWord, liveWord, deadFine, rateFine, rmaxFine, deadRow, entryUnused}
@@ -48,18 +46,10 @@ row-fine w rs j = same (leb (rowWord rs j atLive) 1) (eqb (rowWord rs j atLive) 
     same true true true true fine true = refl
     same true true true true fine false = refl
 
--- words that are not in use, from place a on
+-- vacant entries that are not in use, from entry a on
 module _ (s : List ℕ) (a i : ℕ) (h : a ≤ i) where
   here : a + (i - a) ≡ i
   here = omega arith
-
-  pub zero-yes : getD s i 0 ≡ 0 → zeroWord s a (i - a) ≡ true
-  unfolding zeroWord
-  zero-yes e = rw here (eq-eqb (getD s i 0) 0 e)
-
-  pub zero-no : (getD s i 0 ≡ 0 → ⊥) → zeroWord s a (i - a) ≡ false
-  unfolding zeroWord
-  zero-no e = rw here (ne-eqb (getD s i 0) 0 e)
 
   pub unused-yes : rowWord s i atVacant ≡ 0 → entryUnused s a (i - a) ≡ true
   unfolding entryUnused

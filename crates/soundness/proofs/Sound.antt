@@ -1,13 +1,13 @@
 -- The passes' tests together are the model's conditions. Assumes nothing.
-use mathlib.Core.Path.{_≡_, refl, sym, ap, _∙_}
+use mathlib.Core.Path.{_≡_, sym, ap, _∙_}
 use mathlib.Core.Bool.{Bool, true, false, _&&_}
 use mathlib.Core.List.{List, [], _∷_}
-use Prim.Native.Nat.{ℕ, _+_, _*_, _-_, _/_, _≤_}
+use Prim.Native.Nat.{ℕ, _+_, _*_, _-_, _≤_}
 use native.Mathlib.Nat.{mul-le-mul-left}
 use native.Mathlib.Omega.{arith}
 use lib.ListN.{length, getD}
 use lib.Dec.{eqb, leb}
-use borrow.Author.Tests.{leb-true}
+use borrow.Author.Tests.{leb-true, le-leb}
 use Rattle.lists.specs.Every.{every, count, allTrue}
 use Rattle.lists.specs.Entries.{keysAscend, zeroFrom}
 use Rattle.lists.proofs.Tests.{and-left, and-right, yes-and, no-and, both-true, both-ways, all-true-at, all-more, all-none}
@@ -17,6 +17,13 @@ use Rattle.model.specs.Words.{roomIn, sizesOf, sizesListed, between, slicesList
 use Rattle.model.specs.Soundness.{countsFit, liveWord, stoppedStep, deadRow, vacantEntry, deadFine, rateFine, postingLive, anchorFine, rmaxFine, keyUnstopped, entryUnused, soundTests, soundWords}
 use Rattle.model.proofs.Stores.{sizes-listed, references-long, postings-long}
 use Rattle.soundness.specs.Scan.{words, rowFine, entryFine, rowsSound, postingsSound, stopsAscend, stoppedSound, soundAt, Fits}
+
+-- ---- the numbers in use
+
+-- once the others fit, the stopped keys decide
+pub counts-last : (z : Sizes) (n v p k : ℕ) → n ≤ z .R → v ≤ n → p ≤ z .P → leb k (z .K) ≡ countsFit z n v p k
+unfolding countsFit
+counts-last z n v p k a b c = rw (le-leb n (z .R) a, le-leb v n b, le-leb p (z .P) c)
 
 -- ---- several tests in one pass
 

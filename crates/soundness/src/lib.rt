@@ -5,22 +5,24 @@ ghost use Prim.Native.Nat.{_+_, _*_, _-_, _/_, _<_, _≤_};
 ghost use lib.ListN.{length};
 ghost use lib.Dec.{ltb, eqb};
 ghost use Rattle.lists.specs.Every.{every, count};
-ghost use Rattle.lists.specs.Entries.{keyAt, keysAscend, zeroFrom};
+ghost use Rattle.lists.specs.Entries.{keyAt, keysAscend};
 ghost use Rattle.model.specs.Rows.{isCanonical};
 ghost use Rattle.model.specs.Words.{between, lengthsListed, slicesListed, headWidth, rowWidth};
 ghost use Rattle.model.specs.Soundness.{countsFit, deadRow, vacantEntry, entryUnused, keyUnstopped, soundWords};
 ghost use Rattle.soundness.specs.Scan.{words, rowTest, rowFine, entryFine, rowsSound, postingsSound, stopsAscend, stoppedSound, refusalOf, Fits};
-use postings::at;
 use postings::word;
 use rows::AT_LIVE;
 use rows::AT_RATE;
 use rows::AT_RMAX;
 use rows::AT_VACANT;
+use rows::Counts;
 use rows::HEAD_WIDTH;
 use rows::NO_RATE;
 use rows::ROW_WIDTH;
 use rows::row_word;
-use rows::size;
+use slices::at;
+use slices::is_zero_from;
+use slices::size;
 
 fn within(a: usize, b: usize, x: usize) -> bool
     ensures { λ r. ⌜ r ≡ between a b x ⌝ }
@@ -57,19 +59,19 @@ fn lengths_listed(a: usize, b: usize, c: usize, w: usize) -> bool
 }
 
 // Whether the numbers in use are within the room.
-fn counts_fit(r: usize, most: usize, room: usize, n: usize, v: usize, p: usize, k: usize) -> bool
-    ensures { λ b. ⌜ b ≡ countsFit (record { R = r; P = most; K = room }) n v p k ⌝ }
+fn counts_fit(r: usize, p: usize, k: usize, c: Counts) -> bool
+    ensures { λ b. ⌜ b ≡ countsFit (record { R = r; P = p; K = k }) (c .rows) (c .vacant) (c .postings) (c .stopped) ⌝ }
 {
-    if r < n {
+    if r < c.rows {
         return false;
     }
-    if n < v {
+    if c.rows < c.vacant {
         return false;
     }
-    if most < p {
+    if p < c.postings {
         return false;
     }
-    k <= room
+    c.stopped <= k
 }
 
 // Whether a rate is no NaN, or the one form of it.
@@ -181,24 +183,6 @@ fn entries_unused(refs: &[u32], n: usize, v: usize) -> bool
     true
 }
 
-// Whether every word from place a on is zero.
-fn is_zero_from(s: &[u32], a: usize) -> bool
-    requires { ⌜ a ≤ length (now s) ⌝ }
-    ensures { λ r. ⌜ r ≡ zeroFrom (now (s .entry)) a ⌝ }
-{
-    let mut ok = true;
-    let mut i = a;
-    while i < s.len() {
-        if at(s, i) == 0 {
-            i += 1;
-        } else {
-            ok = false;
-            i += 1;
-        }
-    }
-    ok
-}
-
 fn rows_sound(refs: &[u32], w: usize, n: usize, v: usize) -> bool
     requires { ⌜ (n ≤ 4096) × (v ≤ n) × (headWidth + rowWidth * n ≤ length (now refs)) ⌝ }
     ensures { λ r. ⌜ r ≡ rowsSound w (now (refs .entry)) n v ⌝ }
@@ -303,7 +287,7 @@ fn none_stopped(stops: &[u32], k: usize, posts: &[u32], w: usize, p: usize) -> b
     let mut j = 0;
     while j < k {
         let key = at(stops, j);
-        i = maps::first_from(posts, w, p, i, maps::wide(key));
+        i = maps::first_from(posts, w, p, i, slices::wide(key));
         if has_key(posts, w, p, i, key) {
             return false;
         }
@@ -327,26 +311,18 @@ fn stopped_sound(stops: &[u32], k: usize, posts: &[u32], w: usize, p: usize) -> 
 }
 
 // Whether the words are sound where the numbers in use fit.
-fn sound_within(
-    refs: &[u32],
-    posts: &[u32],
-    stops: &[u32],
-    w: usize,
-    n: usize,
-    v: usize,
-    p: usize,
-    k: usize,
-) -> bool
-    requires { ⌜ Fits w (now refs) (now posts) (now stops) n v p k ⌝ }
-    ensures { λ r. ⌜ r ≡ rowsSound w (now (refs .entry)) n v && (postingsSound w (now (refs .entry)) n (now (posts .entry)) p && stoppedSound w (now (stops .entry)) k (now (posts .entry)) p) ⌝ }
+fn sound_within(refs: &[u32], posts: &[u32], stops: &[u32], w: usize, c: Counts) -> bool
+    requires { ⌜ Fits w (now refs) (now posts) (now stops) (c .rows) (c .vacant) (c .postings) (c .stopped) ⌝ }
+    ensures { λ r. ⌜ r ≡ rowsSound w (now (refs .entry)) (c .rows) (c .vacant)
+        && (postingsSound w (now (refs .entry)) (c .rows) (now (posts .entry)) (c .postings) && stoppedSound w (now (stops .entry)) (c .stopped) (now (posts .entry)) (c .postings)) ⌝ }
 {
-    if !rows_sound(refs, w, n, v) {
+    if !rows_sound(refs, w, c.rows, c.vacant) {
         return false;
     }
-    if !postings_sound(refs, n, posts, w, p) {
+    if !postings_sound(refs, c.rows, posts, w, c.postings) {
         return false;
     }
-    stopped_sound(stops, k, posts, w, p)
+    stopped_sound(stops, c.stopped, posts, w, c.postings)
 }
 
 // Whether the words of a store, whose slices have lengths that are listed, are sound.
@@ -354,23 +330,16 @@ fn words_sound(refs: &[u32], posts: &[u32], stops: &[u32], w: usize) -> bool
     requires { ⌜ (3 ≤ w) × (slicesListed w (words (now refs) (now posts) (now stops)) ≡ true) ⌝ }
     ensures { λ r. ⌜ r ≡ soundWords w (words (now (refs .entry)) (now (posts .entry)) (now (stops .entry))) ⌝ }
 {
-    let h = rows::header(refs);
-    let n = h.rows;
-    let v = h.vacant;
-    let p = h.postings;
-    let k = h.stopped;
+    let c = rows::header(refs);
     if !counts_fit(
         (refs.len() - HEAD_WIDTH) / ROW_WIDTH,
         posts.len() / w,
         stops.len(),
-        n,
-        v,
-        p,
-        k,
+        c,
     ) {
         return false;
     }
-    sound_within(refs, posts, stops, w, n, v, p, k)
+    sound_within(refs, posts, stops, w, c)
 }
 
 // Whether the lengths of a store's slices are of those listed.

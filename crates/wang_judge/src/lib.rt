@@ -80,8 +80,15 @@ fn score_at(s: &[i64], a: usize, g: usize, q: WangQuery, centre: i64) -> f32
     ensures { λ r. ⌜ r ≡ scoreOf (distinct (countsIn (q .«q_max») (now (s .entry)) a g) (q .cfg .«offset_tolerance_frames») centre (q .«q_len»)) (q .«q_len») ⌝ }
 {
     let cfg = q.cfg;
-    let x = above_low(centre, maps::wide(q.q_max));
-    let n = bins::distinct_positions(s, a, g, maps::wide(cfg.offset_tolerance_frames), x, q.q_len);
+    let x = above_low(centre, slices::wide(q.q_max));
+    let n = bins::distinct_positions(
+        s,
+        a,
+        g,
+        slices::wide(cfg.offset_tolerance_frames),
+        x,
+        q.q_len,
+    );
     matching::score(n, q.q_len as u64)
 }
 
@@ -100,11 +107,18 @@ fn weigh(
     ensures { λ r. ⌜ r ≡ verdictOf (passing (peakGates (thresholdsOf q) (atPeak (seenIn q «r_max» (now (s .entry)) a g))) (resultOf fps (seenIn q «r_max» (now (s .entry)) a g))) ⌝ }
 {
     let cfg = q.cfg;
-    let low = maps::wide(q.q_max);
-    let high = maps::wide(r_max);
-    let peak = peak_of(s, at, n, maps::wide(cfg.offset_tolerance_frames), low, high);
+    let low = slices::wide(q.q_max);
+    let high = slices::wide(r_max);
+    let peak = peak_of(
+        s,
+        at,
+        n,
+        slices::wide(cfg.offset_tolerance_frames),
+        low,
+        high,
+    );
     let votes = peak.votes;
-    if votes < maps::wide(cfg.min_votes) {
+    if votes < slices::wide(cfg.min_votes) {
         return Verdict::Barred;
     }
     let prominence = matching::wang_prominence(votes, peak.total, low + high + 1);
@@ -143,6 +157,6 @@ pub fn judge(
         size: 33,
         scaled: false,
     };
-    let n = bins::count_sorted(s, a, g, at, form, maps::wide(q.q_max));
+    let n = bins::count_sorted(s, a, g, at, form, slices::wide(q.q_max));
     weigh(s, a, g, at, n, q, fps, r_max)
 }

@@ -63,7 +63,7 @@ fn best_candidate(
         q.q_len,
         starts,
         ends,
-        maps::wide(q.q_max),
+        slices::wide(q.q_max),
     );
     sorting::sort_words(s, v);
     best_of(s, v, refs, q)

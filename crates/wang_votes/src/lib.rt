@@ -19,8 +19,8 @@ fn put_posting(s: &mut [i64], at: usize, posts: &[u32], k: usize, shift: u64, q:
     requires { ⌜ (at < length (now s)) × (k + 2 < length (now posts)) × (getD (now posts) (k + 1) 0 < 2 ^ 12) × (shift < 2 ^ 32) × (q < 2 ^ 11) ⌝ }
     ensures { λ _. ⌜ now (s .exit) ≡ set (now (s .entry)) at (pos (packed (getD (now (posts .entry)) (k + 1) 0) (getD (now (posts .entry)) (k + 2) 0 + shift) q)) ⌝ }
 {
-    let id = maps::wide(posts[k + 1]);
-    let t = maps::wide(posts[k + 2]);
+    let id = slices::wide(posts[k + 1]);
+    let t = slices::wide(posts[k + 2]);
     maps::put_word(s, at, bins::pack(id, t + shift, q));
 }
 
@@ -96,7 +96,7 @@ pub fn gather(
     while i < m {
         let k = 2 * i;
         let key = hashes[k];
-        let t = maps::wide(hashes[k + 1]);
+        let t = slices::wide(hashes[k + 1]);
         v = gather_key(s, v, posts, p, starts[i], ends[i], key, top - t, i as u64);
         i += 1;
     }

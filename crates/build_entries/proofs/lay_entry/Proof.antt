@@ -3,8 +3,8 @@ use borrow.Author.Needs.{needs}
 use native.Mathlib.Omega.{arith}
 use mathlib.Core.Path.{_∙_}
 use Prim.Native.Nat.{_+_, _*_, _-_}
-use lib.ListN.{take, drop, length-set}
-use Rattle.build_entries.proofs.Prefix.{entry-done, entry-same}
+use lib.ListN.{length-set}
+use Rattle.build_entries.proofs.Prefix.{entry-done}
 use Rattle.build_entries.proofs.lay_entry.Statement.{statement}
 use Rattle.build_entries.proofs.lay_entry.Tie as tie
 
@@ -59,8 +59,8 @@ returns c =
     let a = s .args in
     let x = c .before .before .before .before .at in
     let g = c .before .before .copy-words in
-    let d = entry-done (a .posts .now) (g .last .0) (a .w) (a .w * a .e) (x .result) (a .id) (take (a .w - 2) (drop ((a .w - 1) * a .i + 1) (a .hashes .now))) (s .pre .0) (s .pre .1) (g .ensures .0) in
-    (rw (x .ensures) at d, entry-same (a .posts .now) (g .last .0) (a .w) (a .w * a .e) (x .result) (a .id) (s .pre .0) (g .ensures .1))
+    let d = entry-done (a .posts .now) (g .last .0) (a .w) (a .w * a .e) (x .result) (a .id) (a .hashes .now) ((a .w - 1) * a .i + 1) (s .pre .0) (s .pre .1) (omega arith) (g .ensures) in
+    (rw (x .ensures) at (d .0), d .1)
 
 pub lay-entry-spec : {M : Type 1} → statement M
 lay-entry-spec =

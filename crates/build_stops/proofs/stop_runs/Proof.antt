@@ -6,7 +6,7 @@ use native.Mathlib.Nat.{mul-le-mul-left}
 use lib.ListN.{length, take, drop}
 use Rattle.lists.specs.Lists.{flat}
 use Rattle.lists.proofs.Entries.{stride}
-use Rattle.postings.proofs.Moves.{take-moved, drop-behind}
+use Rattle.slices.proofs.Moved.{take-moved, drop-behind}
 use Rattle.build_stops.proofs.Stopping.{Stopping, stopping-none, fewer, key-now, in-words, stops-room, stopping-stop, stopping-keep, kept-end, stops-end}
 use Rattle.build_stops.proofs.stop_runs.Statement.{statement}
 use Rattle.build_stops.proofs.stop_runs.Tie as tie
@@ -19,7 +19,7 @@ abbrev μ-loop : tie.MeasureT-loop
 μ-loop posts₀ w n stops₀ limit i₀ q₀ k₀ posts stops i q k =
     n - i
 
-module _ (c : tie.After-run-end Inv-loop μ-loop) where
+module _ (c : tie.After-key-run-end Inv-loop μ-loop) where
   abbrev I : tie.In-loop Inv-loop μ-loop
   I = c .before .before
 
@@ -27,7 +27,7 @@ module _ (c : tie.After-run-end Inv-loop μ-loop) where
   o = I .before .before .before .before
 
   abbrev e : ℕ
-  e = c .run-end .result
+  e = c .key-run-end .result
 
   abbrev h : Stopping (o .args .w) (o .args .n) (o .args .limit) (o .args .posts .now) (o .args .stops .now) (I .before .loop .posts) (I .before .loop .stops) (I .before .loop .i) (I .before .loop .q) (I .before .loop .k)
   h = I .before .loop .inv
@@ -40,15 +40,15 @@ loop-holds c =
     let s = c .before .before in
     stopping-none (s .args .w) (s .args .n) (s .args .limit) (s .args .posts .now) (s .args .stops .now)
 
-run-end-requires : tie.Need-run-end-requires Inv-loop μ-loop
-run-end-requires c κs =
+key-run-end-requires : tie.Need-key-run-end-requires Inv-loop μ-loop
+key-run-end-requires c κs =
     let I = c .before in
     let s = I .before .before .before .before in
     (s .pre .0, I .loop-test .taken, rw (I .before .loop .inv .len) (s .pre .1))
 
 sub-if1 : tie.Need-sub-if1 Inv-loop μ-loop
 sub-if1 c =
-    omega (arith, c .run-end .ensures .some)
+    omega (arith, c .key-run-end .ensures .some)
 
 key-at-requires : tie.Need-key-at-requires Inv-loop μ-loop
 key-at-requires c κs =
@@ -59,34 +59,34 @@ mul-stops c =
     let R = c .before .before .before in
     let s = o R in
     let l = I R .before .loop in
-    omega (arith, stops-room (s .args .w) (s .args .n) (s .args .limit) (s .args .posts .now) (s .pre .0) (s .pre .1) (s .pre .2) (s .args .stops .now) (l .posts) (l .stops) (l .i) (l .q) (l .k) (e R) (h R) (I R .loop-test .taken) (R .run-end .ensures) (c .before .before .if1 .taken) (s .pre .3), h R .len-keys)
+    omega (arith, stops-room (s .args .w) (s .args .n) (s .args .limit) (s .args .posts .now) (s .pre .0) (s .pre .1) (s .pre .2) (s .args .stops .now) (l .posts) (l .stops) (l .i) (l .q) (l .k) (e R) (h R) (I R .loop-test .taken) (R .key-run-end .ensures) (c .before .before .if1 .taken) (s .pre .3), h R .len-keys)
 
 slice-write-stops : tie.Need-slice-write-stops Inv-loop μ-loop
 slice-write-stops c =
     let R = c .before .before .before in
     let s = o R in
     let l = I R .before .loop in
-    stops-room (s .args .w) (s .args .n) (s .args .limit) (s .args .posts .now) (s .pre .0) (s .pre .1) (s .pre .2) (s .args .stops .now) (l .posts) (l .stops) (l .i) (l .q) (l .k) (e R) (h R) (I R .loop-test .taken) (R .run-end .ensures) (c .before .before .if1 .taken) (s .pre .3)
+    stops-room (s .args .w) (s .args .n) (s .args .limit) (s .args .posts .now) (s .pre .0) (s .pre .1) (s .pre .2) (s .args .stops .now) (l .posts) (l .stops) (l .i) (l .q) (l .k) (e R) (h R) (I R .loop-test .taken) (R .key-run-end .ensures) (c .before .before .if1 .taken) (s .pre .3)
 
 add-k : tie.Need-add-k Inv-loop μ-loop
 add-k c =
     let R = c .before .before .before in
     let s = o R in
     let l = I R .before .loop in
-    omega (arith, stops-room (s .args .w) (s .args .n) (s .args .limit) (s .args .posts .now) (s .pre .0) (s .pre .1) (s .pre .2) (s .args .stops .now) (l .posts) (l .stops) (l .i) (l .q) (l .k) (e R) (h R) (I R .loop-test .taken) (R .run-end .ensures) (c .before .before .if1 .taken) (s .pre .3), h R .len-keys)
+    omega (arith, stops-room (s .args .w) (s .args .n) (s .args .limit) (s .args .posts .now) (s .pre .0) (s .pre .1) (s .pre .2) (s .args .stops .now) (l .posts) (l .stops) (l .i) (l .q) (l .k) (e R) (h R) (I R .loop-test .taken) (R .key-run-end .ensures) (c .before .before .if1 .taken) (s .pre .3), h R .len-keys)
 
 loop-less : tie.Need-loop-less Inv-loop μ-loop
 loop-less c =
-    omega (arith, c .before .before .before .run-end .ensures .some, c .before .before .before .run-end .ensures .within)
+    omega (arith, c .before .before .before .key-run-end .ensures .some, c .before .before .before .key-run-end .ensures .within)
 
 loop-again : tie.Need-loop-again Inv-loop μ-loop
 loop-again c =
     let R = c .before .before .before in
     let s = o R in
     let l = I R .before .loop in
-    let g = stops-room (s .args .w) (s .args .n) (s .args .limit) (s .args .posts .now) (s .pre .0) (s .pre .1) (s .pre .2) (s .args .stops .now) (l .posts) (l .stops) (l .i) (l .q) (l .k) (e R) (h R) (I R .loop-test .taken) (R .run-end .ensures) (c .before .before .if1 .taken) (s .pre .3) in
-    rw (c .key-at .ensures ∙ key-now (s .args .w) (s .args .n) (s .args .limit) (s .args .posts .now) (s .pre .0) (s .pre .1) (s .pre .2) (s .args .stops .now) (l .posts) (l .stops) (l .i) (l .q) (l .k) (e R) (h R) (I R .loop-test .taken) (R .run-end .ensures) (l .i) (omega arith))
-    (stopping-stop (s .args .w) (s .args .n) (s .args .limit) (s .args .posts .now) (s .pre .0) (s .pre .1) (s .pre .2) (s .args .stops .now) (l .posts) (l .stops) (l .i) (l .q) (l .k) (e R) (h R) (I R .loop-test .taken) (R .run-end .ensures) (c .before .before .if1 .taken) g)
+    let g = stops-room (s .args .w) (s .args .n) (s .args .limit) (s .args .posts .now) (s .pre .0) (s .pre .1) (s .pre .2) (s .args .stops .now) (l .posts) (l .stops) (l .i) (l .q) (l .k) (e R) (h R) (I R .loop-test .taken) (R .key-run-end .ensures) (c .before .before .if1 .taken) (s .pre .3) in
+    rw (c .key-at .ensures ∙ key-now (s .args .w) (s .args .n) (s .args .limit) (s .args .posts .now) (s .pre .0) (s .pre .1) (s .pre .2) (s .args .stops .now) (l .posts) (l .stops) (l .i) (l .q) (l .k) (e R) (h R) (I R .loop-test .taken) (R .key-run-end .ensures) (l .i) (omega arith))
+    (stopping-stop (s .args .w) (s .args .n) (s .args .limit) (s .args .posts .now) (s .pre .0) (s .pre .1) (s .pre .2) (s .args .stops .now) (l .posts) (l .stops) (l .i) (l .q) (l .k) (e R) (h R) (I R .loop-test .taken) (R .key-run-end .ensures) (c .before .before .if1 .taken) g)
 
 mul-move-down : tie.Need-mul-move-down Inv-loop μ-loop
 mul-move-down c =
@@ -100,14 +100,14 @@ mul-move-down-2 c =
 
 sub-move-down : tie.Need-sub-move-down Inv-loop μ-loop
 sub-move-down c =
-    omega (arith, c .before .before .run-end .ensures .some)
+    omega (arith, c .before .before .key-run-end .ensures .some)
 
 mul-move-down-3 : tie.Need-mul-move-down-3 Inv-loop μ-loop
 mul-move-down-3 c =
     let R = c .before .before in
     let s = o R in
     let l = I R .before .loop in
-    omega (arith, in-words (s .args .w) (s .args .n) (s .args .limit) (s .args .posts .now) (s .pre .0) (s .pre .1) (s .pre .2) (s .args .stops .now) (l .posts) (l .stops) (l .i) (l .q) (l .k) (e R) (h R) (I R .loop-test .taken) (R .run-end .ensures))
+    omega (arith, in-words (s .args .w) (s .args .n) (s .args .limit) (s .args .posts .now) (s .pre .0) (s .pre .1) (s .pre .2) (s .args .stops .now) (l .posts) (l .stops) (l .i) (l .q) (l .k) (e R) (h R) (I R .loop-test .taken) (R .key-run-end .ensures))
 
 move-down-requires : tie.Need-move-down-requires Inv-loop μ-loop
 move-down-requires c κs =
@@ -115,24 +115,24 @@ move-down-requires c κs =
     let s = o R in
     let l = I R .before .loop in (
       mul-le-mul-left (s .args .w) (fewer (s .args .w) (s .args .n) (s .args .limit) (s .args .posts .now) (s .args .stops .now) (l .posts) (l .stops) (l .i) (l .q) (l .k) (h R)),
-      in-words (s .args .w) (s .args .n) (s .args .limit) (s .args .posts .now) (s .pre .0) (s .pre .1) (s .pre .2) (s .args .stops .now) (l .posts) (l .stops) (l .i) (l .q) (l .k) (e R) (h R) (I R .loop-test .taken) (R .run-end .ensures),
+      in-words (s .args .w) (s .args .n) (s .args .limit) (s .args .posts .now) (s .pre .0) (s .pre .1) (s .pre .2) (s .args .stops .now) (l .posts) (l .stops) (l .i) (l .q) (l .k) (e R) (h R) (I R .loop-test .taken) (R .key-run-end .ensures),
     )
 
 sub-q : tie.Need-sub-q Inv-loop μ-loop
 sub-q c =
-    omega (arith, c .before .before .before .before .before .run-end .ensures .some)
+    omega (arith, c .before .before .before .before .before .key-run-end .ensures .some)
 
 add-q : tie.Need-add-q Inv-loop μ-loop
 add-q c =
     let R = c .before .before .before .before .before in
     let s = o R in
     let l = I R .before .loop in
-    omega (arith, R .run-end .ensures .within, fewer (s .args .w) (s .args .n) (s .args .limit) (s .args .posts .now) (s .args .stops .now) (l .posts) (l .stops) (l .i) (l .q) (l .k) (h R), R .run-end .ensures .some)
+    omega (arith, R .key-run-end .ensures .within, fewer (s .args .w) (s .args .n) (s .args .limit) (s .args .posts .now) (s .args .stops .now) (l .posts) (l .stops) (l .i) (l .q) (l .k) (h R), R .key-run-end .ensures .some)
 
 loop-less-2 : tie.Need-loop-less-2 Inv-loop μ-loop
 loop-less-2 c =
     let R = c .before .before .before .before .before in
-    omega (arith, R .run-end .ensures .some, R .run-end .ensures .within)
+    omega (arith, R .key-run-end .ensures .some, R .key-run-end .ensures .within)
 
 loop-again-2 : tie.Need-loop-again-2 Inv-loop μ-loop
 loop-again-2 c =
@@ -142,8 +142,8 @@ loop-again-2 c =
     let m = c .before .before .move-down in
     let n : ℕ = s .args .w * (e R - l .i) in
     let low = mul-le-mul-left (s .args .w) (fewer (s .args .w) (s .args .n) (s .args .limit) (s .args .posts .now) (s .args .stops .now) (l .posts) (l .stops) (l .i) (l .q) (l .k) (h R)) in
-    let high = in-words (s .args .w) (s .args .n) (s .args .limit) (s .args .posts .now) (s .pre .0) (s .pre .1) (s .pre .2) (s .args .stops .now) (l .posts) (l .stops) (l .i) (l .q) (l .k) (e R) (h R) (I R .loop-test .taken) (R .run-end .ensures) in
-    stopping-keep (s .args .w) (s .args .n) (s .args .limit) (s .args .posts .now) (s .pre .0) (s .pre .1) (s .pre .2) (s .args .stops .now) (l .posts) (l .stops) (l .i) (l .q) (l .k) (e R) (h R) (I R .loop-test .taken) (R .run-end .ensures) (c .before .before .before .before .if1 .left)
+    let high = in-words (s .args .w) (s .args .n) (s .args .limit) (s .args .posts .now) (s .pre .0) (s .pre .1) (s .pre .2) (s .args .stops .now) (l .posts) (l .stops) (l .i) (l .q) (l .k) (e R) (h R) (I R .loop-test .taken) (R .key-run-end .ensures) in
+    stopping-keep (s .args .w) (s .args .n) (s .args .limit) (s .args .posts .now) (s .pre .0) (s .pre .1) (s .pre .2) (s .args .stops .now) (l .posts) (l .stops) (l .i) (l .q) (l .k) (e R) (h R) (I R .loop-test .taken) (R .key-run-end .ensures) (c .before .before .before .before .if1 .left)
     (m .last .0) (m .kept .0)
     (ap (take (s .args .w * l .q + n)) (m .ensures) ∙ take-moved (l .posts) (s .args .w * l .q) (s .args .w * l .i) n low high)
     (ap (drop (s .args .w * l .i + n)) (m .ensures) ∙ drop-behind (l .posts) (s .args .w * l .q) (s .args .w * l .i) n low high)
@@ -178,7 +178,7 @@ stop-runs-spec =
     Inv-loop
     μ-loop
     loop-holds
-    run-end-requires
+    key-run-end-requires
     sub-if1
     key-at-requires
     mul-stops

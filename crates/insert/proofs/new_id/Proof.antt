@@ -18,7 +18,7 @@ size-requires : tie.Need-size-requires
 size-requires c κs = search needs
 
 returns-2 : tie.Need-returns-2
-returns-2 c = rw (ne-eqb _ 0 (c .before .before .if1 .left)) (c .size .ensures ∙ c .before .row-word .ensures)
+returns-2 c = rw (ne-eqb _ 0 (c .before .before .before .if1 .left)) (c .size .ensures ∙ c .before .row-word .ensures)
 
 pub new-id-spec : {M : Type 1} → statement M
 new-id-spec = tie.close (tie.spec returns sub-row-word row-word-requires size-requires returns-2)

@@ -2,7 +2,7 @@
 use mathlib.Core.Path.{_∙_}
 use native.Mathlib.Nat.{one-mul}
 use native.Mathlib.Omega.{arith}
-use Rattle.insert_merge.proofs.Members.{ascend-words}
+use Rattle.maps.proofs.Members.{ascend-words}
 use Rattle.insert.proofs.Placed.{stops-merged}
 use borrow.Author.Needs.{needs}
 use Rattle.insert.proofs.stop_keys.Statement.{statement}

@@ -5,7 +5,7 @@ use native.Mathlib.Nat.{mul-le-mul-left}
 use native.Mathlib.Omega.{arith}
 use lib.ListN.{length, take}
 use borrow.Author.Needs.{needs}
-use Rattle.postings.specs.Retain.{moved}
+use Rattle.slices.specs.Parts.{pasted}
 use Rattle.postings.proofs.Compact.{Done, done-none, low, high, done-more, done-all}
 use Rattle.postings.proofs.retain.Statement.{statement}
 use Rattle.postings.proofs.retain.Tie as tie
@@ -28,7 +28,7 @@ module _ (c : tie.After-kept-until Inv-loop μ-loop) where
   in-high = high (s .args .w) (s .args .f) (take (s .args .n) (s .args .xs .now)) (s .args .posts .now) (c .before .before .before .loop .posts) (s .args .p) (c .before .before .before .loop .i) (c .before .before .before .loop .q) (s .pre .0) (c .before .before .loop-test .taken) (c .before .before .before .loop .inv .1) (c .kept-until .result) (c .kept-until .ensures)
 
   in-more : Done (s .args .w) (s .args .f) (take (s .args .n) (s .args .xs .now)) (s .args .posts .now)
-      (moved (c .before .before .before .loop .posts) (s .args .w * c .before .before .before .loop .q) (s .args .w * c .before .before .before .loop .i) (s .args .w * (c .kept-until .result - c .before .before .before .loop .i))) (min (c .kept-until .result + 1) (s .args .p)) (c .before .before .before .loop .q + (c .kept-until .result - c .before .before .before .loop .i))
+      (pasted (c .before .before .before .loop .posts) (s .args .w * c .before .before .before .loop .q) (c .before .before .before .loop .posts) (s .args .w * c .before .before .before .loop .i) (s .args .w * (c .kept-until .result - c .before .before .before .loop .i))) (min (c .kept-until .result + 1) (s .args .p)) (c .before .before .before .loop .q + (c .kept-until .result - c .before .before .before .loop .i))
   in-more = done-more (s .args .w) (s .args .f) (take (s .args .n) (s .args .xs .now)) (s .args .posts .now) (c .before .before .before .loop .posts) (s .args .p) (c .before .before .before .loop .i) (c .before .before .before .loop .q) (s .pre .0) (c .before .before .loop-test .taken) (c .before .before .before .loop .inv .1) (c .kept-until .result) (c .kept-until .ensures)
 
 after-low : (c : tie.After-loop Inv-loop μ-loop) → c .before .before .before .before .args .w * c .before .loop .q ≤ c .before .before .before .before .args .w * c .before .before .before .before .args .p

@@ -21,13 +21,13 @@ word-requires : tie.Need-word-requires Inv-loop μ-loop
 word-requires c κs = let s = c .before .before .before .before in
     word-room (s .args .w) (s .args .p) (s .args .f) (s .args .posts .now) (s .args .from) (c .before .loop .i) (s .pre .0) (c .loop-test .taken)
 
-among-requires : tie.Need-among-requires Inv-loop μ-loop
-among-requires c κs = c .before .before .before .before .before .pre .1
+contains-requires : tie.Need-contains-requires Inv-loop μ-loop
+contains-requires c κs = let k = c .before .before .before .before .before .pre .1 in (k .room, k .ascending)
 
 returns : tie.Need-returns Inv-loop μ-loop
 returns c = let s = c .before .before .before .before .before .before .before in
     let l = c .before .before .before .before .loop in
-    passed-stop (λ x. member x (take (s .args .n) (s .args .xs .now))) (s .args .w) (s .args .p) (s .args .f) (s .args .posts .now) (s .args .from) (l .i) (l .inv) (rw (← c .before .before .word .ensures, ← c .before .among .ensures) (c .if1 .taken))
+    passed-stop (λ x. member x (take (s .args .n) (s .args .xs .now))) (s .args .w) (s .args .p) (s .args .f) (s .args .posts .now) (s .args .from) (l .i) (l .inv) (rw (← c .before .before .word .ensures, ← c .before .contains .ensures) (c .if1 .taken))
 
 add-i : tie.Need-add-i Inv-loop μ-loop
 add-i c = omega arith
@@ -38,7 +38,7 @@ loop-less c = omega arith
 loop-again : tie.Need-loop-again Inv-loop μ-loop
 loop-again c = let s = c .before .before .before .before .before .before .before in
     let l = c .before .before .before .before .loop in
-    passed-more (λ x. member x (take (s .args .n) (s .args .xs .now))) (s .args .w) (s .args .p) (s .args .f) (s .args .posts .now) (s .args .from) (l .i) (l .inv) (c .before .before .before .loop-test .taken) (rw (← c .before .before .word .ensures, ← c .before .among .ensures) (c .if1 .left))
+    passed-more (λ x. member x (take (s .args .n) (s .args .xs .now))) (s .args .w) (s .args .p) (s .args .f) (s .args .posts .now) (s .args .from) (l .i) (l .inv) (c .before .before .before .loop-test .taken) (rw (← c .before .before .word .ensures, ← c .before .contains .ensures) (c .if1 .left))
 
 returns-2 : tie.Need-returns-2 Inv-loop μ-loop
 returns-2 c = let s = c .before .before .before .before in
@@ -52,7 +52,7 @@ until-among-spec =
     μ-loop
     loop-holds
     word-requires
-    among-requires
+    contains-requires
     returns
     add-i
     loop-less

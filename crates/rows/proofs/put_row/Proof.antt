@@ -1,7 +1,7 @@
 -- `rows::put_row` meets its contract. Assumes nothing.
 use mathlib.Core.Path.{ap, _∙_}
 use mathlib.Core.List.{List}
-use Prim.Native.Nat.{ℕ, _+_, _*_}
+use Prim.Native.Nat.{ℕ}
 use lib.ListN.{set}
 use Rattle.model.specs.Words.{rowPlace, atRmax, atLive}
 use Rattle.rows.specs.References.{rowPut}

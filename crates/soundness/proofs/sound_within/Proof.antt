@@ -21,7 +21,7 @@ returns-2 c = rw (sym (c .before .before .before .rows-sound .ensures) ∙ not-f
 
 stopped-sound-requires : tie.Need-stopped-sound-requires
 stopped-sound-requires c κs = let s = c .before .before .before .before .before .before .before in
-    ((s .pre .wide, s .pre .postings, s .pre .stopped), keys-up (s .args .w) (s .args .refs .now) (s .args .n) (s .args .posts .now) (s .args .p) (sym (c .before .postings-sound .ensures) ∙ not-false _ (c .if2 .left)))
+    ((s .pre .wide, s .pre .postings, s .pre .stopped), keys-up (s .args .w) (s .args .refs .now) (s .args .c .rows) (s .args .posts .now) (s .args .c .postings) (sym (c .before .postings-sound .ensures) ∙ not-false _ (c .if2 .left)))
 
 returns-3 : tie.Need-returns-3
 returns-3 c = rw (sym (c .before .before .before .before .rows-sound .ensures) ∙ not-false _ (c .before .before .before .if1 .left), sym (c .before .before .postings-sound .ensures) ∙ not-false _ (c .before .if2 .left)) (c .stopped-sound .ensures)

@@ -1,15 +1,16 @@
--- `postings::move_down` meets its contract. Assumes nothing.
+-- `slices::move_down` meets its contract. Assumes nothing.
 use mathlib.Core.Path.{_≡_, refl}
 use Prim.Native.Nat.{_-_, _≤_}
 use native.Mathlib.Omega.{arith}
 use lib.ListN.{length, length-set}
-use Rattle.postings.specs.Retain.{moved}
-use Rattle.postings.proofs.Moves.{moved-none, moved-same, moved-more}
-use Rattle.postings.proofs.move_down.Statement.{statement}
-use Rattle.postings.proofs.move_down.Tie as tie
+use Rattle.slices.specs.Parts.{pasted}
+use Rattle.slices.proofs.Pasted.{pasted-none}
+use Rattle.slices.proofs.Moved.{moved-same, moved-more}
+use Rattle.slices.proofs.move_down.Statement.{statement}
+use Rattle.slices.proofs.move_down.Tie as tie
 
 abbrev Inv-loop : tie.InvT-loop
-Inv-loop s₀ to from n j₀ s j = (j ≤ n) × (s ≡ moved s₀ to from j) × (length s ≡ length s₀)
+Inv-loop s₀ to from n j₀ s j = (j ≤ n) × (s ≡ pasted s₀ to s₀ from j) × (length s ≡ length s₀)
 
 abbrev μ-loop : tie.MeasureT-loop
 μ-loop s₀ to from n j₀ s j = n - j
@@ -18,7 +19,7 @@ returns : tie.Need-returns Inv-loop μ-loop
 returns c = rw (c .if1 .taken) (moved-same (c .before .args .s .now) (c .before .args .from) (c .before .args .n))
 
 loop-holds : tie.Need-loop-holds Inv-loop μ-loop
-loop-holds c = (omega arith, moved-none _ _ _, refl)
+loop-holds c = (omega arith, pasted-none _ _ _ _, refl)
 
 add-x : tie.Need-add-x Inv-loop μ-loop
 add-x c = omega arith

@@ -1,4 +1,4 @@
--- `soundness::is_zero_from` meets its contract. Assumes nothing.
+-- `slices::is_zero_from` meets its contract. Assumes nothing.
 use mathlib.Core.Path.{_≡_, sym, _∙_}
 use Prim.Native.Nat.{_+_, _-_, _≤_}
 use native.Mathlib.Omega.{arith}
@@ -6,9 +6,9 @@ use lib.ListN.{length}
 use Rattle.lists.specs.Every.{every}
 use Rattle.lists.proofs.Every.{every-none, flag-yes, flag-no}
 use Rattle.lists.specs.Entries.{zeroWord, zeroFrom}
-use Rattle.soundness.proofs.Rows.{zero-yes, zero-no}
-use Rattle.soundness.proofs.is_zero_from.Statement.{statement}
-use Rattle.soundness.proofs.is_zero_from.Tie as tie
+use Rattle.slices.proofs.Cleared.{zero-yes, zero-no}
+use Rattle.slices.proofs.is_zero_from.Statement.{statement}
+use Rattle.slices.proofs.is_zero_from.Tie as tie
 
 abbrev Inv-loop : tie.InvT-loop
 Inv-loop s a ok₀ i₀ ok i = (a ≤ i) × (i ≤ length s) × (ok ≡ every (i - a) (zeroWord s a))

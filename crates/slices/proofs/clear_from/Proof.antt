@@ -1,9 +1,9 @@
--- `build_entries::clear_from` meets its contract. Assumes nothing.
+-- `slices::clear_from` meets its contract. Assumes nothing.
 use mathlib.Core.Path.{_∙_}
-use Rattle.build_entries.proofs.Prefix.{cleared-end}
+use Rattle.slices.proofs.Cleared.{cleared-end}
 use borrow.Author.Needs.{needs}
-use Rattle.build_entries.proofs.clear_from.Statement.{statement}
-use Rattle.build_entries.proofs.clear_from.Tie as tie
+use Rattle.slices.proofs.clear_from.Statement.{statement}
+use Rattle.slices.proofs.clear_from.Tie as tie
 
 clear-requires : tie.Need-clear-requires
 clear-requires c κs = search needs

@@ -1,4 +1,4 @@
--- `build_stops::run_end` meets its contract. Assumes nothing.
+-- `build_stops::key_run_end` meets its contract. Assumes nothing.
 use borrow.Author.Needs.{needs}
 use native.Mathlib.Omega.{arith}
 use mathlib.Core.Path.{_≡_, sym, _∙_}
@@ -7,8 +7,8 @@ use lib.ListN.{length}
 use Rattle.lists.specs.Entries.{keyAt}
 use Rattle.lists.proofs.Entries.{stride}
 use Rattle.maps.proofs.Tests.{next-from}
-use Rattle.build_stops.proofs.run_end.Statement.{statement}
-use Rattle.build_stops.proofs.run_end.Tie as tie
+use Rattle.build_stops.proofs.key_run_end.Statement.{statement}
+use Rattle.build_stops.proofs.key_run_end.Tie as tie
 
 abbrev Inv-loop : tie.InvT-loop
 Inv-loop posts w i n key e₀ e =
@@ -69,8 +69,8 @@ returns-2 c =
     let l = c .before .loop in
     record { some = l .inv .0; within = l .inv .1; same = l .inv .2; other = λ h e. omega arith }
 
-pub run-end-spec : {M : Type 1} → statement M
-run-end-spec =
+pub key-run-end-spec : {M : Type 1} → statement M
+key-run-end-spec =
     tie.close
     (tie.spec
     Inv-loop

@@ -1,12 +1,12 @@
--- `postings::clear` meets its contract. Assumes nothing.
+-- `slices::clear` meets its contract. Assumes nothing.
 use mathlib.Core.Path.{_≡_, refl}
 use Prim.Native.Nat.{_-_, _≤_}
 use native.Mathlib.Omega.{arith}
 use lib.ListN.{length, length-set}
-use Rattle.postings.specs.Retain.{cleared}
-use Rattle.postings.proofs.Moves.{cleared-none, cleared-more}
-use Rattle.postings.proofs.clear.Statement.{statement}
-use Rattle.postings.proofs.clear.Tie as tie
+use Rattle.slices.specs.Parts.{cleared}
+use Rattle.slices.proofs.Cleared.{cleared-none, cleared-more}
+use Rattle.slices.proofs.clear.Statement.{statement}
+use Rattle.slices.proofs.clear.Tie as tie
 
 abbrev Inv-loop : tie.InvT-loop
 Inv-loop s₀ a b i₀ s i = (a ≤ i) × (i ≤ b) × (s ≡ cleared s₀ a i) × (length s ≡ length s₀)

@@ -1,0 +1,4 @@
+-- Laws that belong to no one function.
+pub mod Pasted
+pub mod Moved
+pub mod Cleared

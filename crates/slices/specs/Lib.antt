@@ -1,0 +1,2 @@
+-- Parts of a slice that are written.
+pub mod Parts
