@@ -2,41 +2,71 @@
 //! the check that holds our answer to the Rust's.
 
 use crate::capi::{Answer, NAN_F32, NAN_F64};
+use std::collections::BTreeMap;
+use std::fmt::Write;
+use std::sync::Mutex;
+use std::thread;
 
-/// A run: its settings, and how many checks have passed.
+/// What a check does.
+type Body = Box<dyn FnOnce(&mut Check) + Send>;
+
+/// A run: its settings, and its checks.
 pub struct Run {
     pub seed: u64,
     pub scale: u64,
     pub only: Option<String>,
-    pub passed: u64,
+    pub checks: Vec<(&'static str, Body)>,
 }
 
 impl Run {
-    /// Runs one check, unless `--only` asks for others. Its random numbers
-    /// follow from seed and name alone, so that it can be repeated by itself.
-    pub fn check(&mut self, name: &'static str, body: impl FnOnce(&mut Check)) {
-        if self
-            .only
-            .as_ref()
-            .is_some_and(|only| !name.contains(only.as_str()))
-        {
-            return;
+    /// Adds a check, unless `--only` asks for others.
+    pub fn check(&mut self, name: &'static str, body: impl FnOnce(&mut Check) + Send + 'static) {
+        let asked = |only: &String| name.contains(only.as_str());
+        if self.only.as_ref().is_none_or(asked) {
+            self.checks.push((name, Box::new(body)));
         }
-        let mut rng = Rng(self.seed);
-        for byte in name.bytes() {
-            rng = Rng(rng.next() ^ u64::from(byte));
-        }
-        let mut check = Check {
-            name,
-            inputs: 0,
-            scale: self.scale,
-            notes: Vec::new(),
-            rng,
+    }
+
+    /// Runs the checks, as many at a time as there are processors, and prints
+    /// in their order what each came to. How many have passed.
+    pub fn end(self) -> usize {
+        let (seed, scale) = (self.seed, self.scale);
+        let workers = thread::available_parallelism().map_or(1, usize::from);
+        let checks = Mutex::new(self.checks.into_iter().enumerate());
+        let printer = Mutex::new(Printer::default());
+        let work = || {
+            let next = || checks.lock().expect("no check failed").next();
+            while let Some((number, (name, body))) = next() {
+                let mut check = Check::new(name, seed, scale);
+                body(&mut check);
+                let mut printer = printer.lock().expect("no check failed");
+                printer.put(number, check.ended());
+            }
         };
-        body(&mut check);
-        println!("{name}: {} inputs, 0 differences", check.inputs);
-        check.notes.iter().for_each(|note| println!("    {note}"));
-        self.passed += 1;
+        thread::scope(|scope| {
+            for _ in 0..workers {
+                let thread = thread::Builder::new().stack_size(8 << 20);
+                thread.spawn_scoped(scope, work).expect("a thread");
+            }
+        });
+        printer.into_inner().expect("no check failed").printed
+    }
+}
+
+/// What checks came to, those held back that have to wait for others.
+#[derive(Default)]
+struct Printer {
+    printed: usize,
+    held: BTreeMap<usize, String>,
+}
+
+impl Printer {
+    fn put(&mut self, number: usize, text: String) {
+        self.held.insert(number, text);
+        while let Some(text) = self.held.remove(&self.printed) {
+            print!("{text}");
+            self.printed += 1;
+        }
     }
 }
 
@@ -50,6 +80,28 @@ pub struct Check {
 }
 
 impl Check {
+    /// Its random numbers follow from seed and name alone, so that it can be
+    /// repeated by itself.
+    fn new(name: &'static str, seed: u64, scale: u64) -> Check {
+        let mix = |rng: Rng, byte: u8| Rng({ rng }.next() ^ u64::from(byte));
+        Check {
+            name,
+            inputs: 0,
+            scale,
+            notes: Vec::new(),
+            rng: name.bytes().fold(Rng(seed), mix),
+        }
+    }
+
+    /// What to print of a check that has passed.
+    fn ended(self) -> String {
+        let mut text = format!("{}: {} inputs, 0 differences\n", self.name, self.inputs);
+        for note in self.notes {
+            writeln!(text, "    {note}").expect("a string takes it");
+        }
+        text
+    }
+
     /// `count` at the gate's size, more with `--scale`.
     pub fn times(&self, count: u64) -> std::ops::Range<u64> {
         0..count * self.scale

@@ -41,7 +41,7 @@ fn main() {
         seed: 1,
         scale: 1,
         only: None,
-        passed: 0,
+        checks: Vec::new(),
     };
     let mut measure = false;
     let mut words = std::env::args().skip(1);
@@ -81,9 +81,10 @@ fn main() {
     sheet::run(&mut run);
     replay::run(&mut run);
     stack::run(&mut run);
-    if run.passed == 0 {
+    let passed = run.end();
+    if passed == 0 {
         eprintln!("compare: no check has that name");
         std::process::exit(2);
     }
-    println!("compare: {} checks passed", run.passed);
+    println!("compare: {passed} checks passed");
 }
