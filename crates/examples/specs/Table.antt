@@ -2,7 +2,7 @@
 use mathlib.Core.Bool.{Bool, true, false, _&&_, Bool·beq}
 use mathlib.Core.List.{List, [], _∷_, _++_}
 use mathlib.Core.Option.{Option, none, some}
-use Prim.Native.Nat.{ℕ, _/_}
+use Prim.Native.Nat.{ℕ, _+_, _*_, _/_}
 use lib.IntN.{ℤ, pos, negsuc}
 use lib.Dec.{eqb}
 use lib.ListN.{length, replicate}
@@ -17,7 +17,7 @@ use Rattle.consolidate.specs.Box.{boxPeak}
 use Rattle.hough.specs.Hough as Hough
 use Rattle.hough.specs.Hough.{houghPeak, peakOffset}
 use Rattle.model.specs.Calls.{Answer, built, stored, removed, count, best, nothing, refused}
-use Rattle.model.specs.Words.{Words}
+use Rattle.model.specs.Words.{Words, headWidth, rowWidth}
 use Rattle.model.specs.Run.{runInsert, runRemove}
 use Rattle.matching.specs.Offsets.{millis}
 use Rattle.matching.specs.Rates.{ratesAgree}
@@ -80,7 +80,7 @@ sameIds (x ∷ xs) (y ∷ ys) = eqb x y && sameIds xs ys
 
 -- R 4, P 1, K 1
 abbrev zeroed : Words
-zeroed = record { references = replicate 20 0; postings = replicate 3 0; stopped = replicate 1 0 }
+zeroed = record { references = replicate (headWidth + rowWidth * 4) 0; postings = replicate 3 0; stopped = replicate 1 0 }
 
 abbrev storedIds : Answer → List ℕ
 storedIds built = []

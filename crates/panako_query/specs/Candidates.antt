@@ -9,6 +9,7 @@ use Rattle.lists.specs.Lists.{All}
 use Rattle.lists.specs.Entries.{entries}
 use Rattle.matching.specs.declared.MatchResult.{MatchResult}
 use Rattle.model.specs.Calls.{Answer}
+use Rattle.model.specs.Words.{headWidth, rowWidth}
 use Rattle.panako_vote.specs.Grids.{gridOf}
 use Rattle.main_votes.specs.Main.{mainOf}
 use Rattle.query_laws.specs.Candidates as of-reading
@@ -48,7 +49,7 @@ mainIn q zs = mainOf lowest 52 (q .cfg .«min_votes») zs
 
 -- the references have the rows that they count; "Tolerance at most 65,535"
 pub record Limits (rs : List ℕ) (q : PanakoQuery) : Type 0 where
-  pub rows : 4 + 4 * getD rs 0 0 ≤ length rs
+  pub rows : headWidth + rowWidth * getD rs 0 0 ≤ length rs
   pub many : getD rs 0 0 ≤ 4096
   pub tolerance : q .cfg .«offset_tolerance_frames» ≤ 65535
 

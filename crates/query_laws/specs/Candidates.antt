@@ -15,6 +15,7 @@ use Rattle.model.specs.Rows.{Row}
 use Rattle.model.specs.Query.{bestBelow}
 use Rattle.model.specs.Calls.{Answer, refused, answerOf}
 use Rattle.model.specs.Soundness.{rowWord}
+use Rattle.model.specs.Words.{atRate, atRmax}
 
 -- how an index reads the word of a vote, and judges a recording by its row and its votes
 pub record Reading (Vote : Type 0) : Type 0 where
@@ -24,7 +25,7 @@ pub record Reading (Vote : Type 0) : Type 0 where
 
 -- the row of recording j
 abbrev pub rowAt : List ℕ → ℕ → Row
-rowAt rs j = record { rate = rowWord rs j 0; rmax = rowWord rs j 1 }
+rowAt rs j = record { rate = rowWord rs j atRate; rmax = rowWord rs j atRmax }
 
 module _ {Vote : Type 0} (R : Reading Vote) where
   -- the words of recording j; its votes

@@ -10,6 +10,7 @@ use Rattle.bins.specs.Votes.{recordingOf, placeOf}
 use Rattle.matching.specs.declared.MatchResult.{MatchResult}
 use Rattle.model.specs.Calls.{Answer}
 use Rattle.model.specs.Soundness.{rowWord}
+use Rattle.model.specs.Words.{headWidth, rowWidth, atRmax}
 use Rattle.query_laws.specs.Candidates as of-reading
 use Rattle.wang_judge.specs.declared.WangQuery.{WangQuery}
 use Rattle.wang_judge.specs.Judge.{Vote, judgeBy}
@@ -43,7 +44,7 @@ answerIn q room rs ps hs = of-reading.answerIn (reading q) room rs (wordsIn q rs
 
 -- the references have the rows that they count; "Tolerance at most 65,535", "query 0 to 2,048" hashes
 pub record Limits (rs : List ℕ) (q : WangQuery) : Type 0 where
-  pub rows : 4 + 4 * getD rs 0 0 ≤ length rs
+  pub rows : headWidth + rowWidth * getD rs 0 0 ≤ length rs
   pub many : getD rs 0 0 ≤ 4096
   pub tolerance : q .cfg .«offset_tolerance_frames» ≤ 65535
   pub short : q .«q_len» ≤ 2048
@@ -51,7 +52,7 @@ pub record Limits (rs : List ℕ) (q : WangQuery) : Type 0 where
 -- a vote is of a recording in the references, and lies in its span
 pub record Spanned (rs : List ℕ) (top : ℕ) (z : ℤ) : Type 0 where
   pub known : recordingOf z < getD rs 0 0
-  pub near : placeOf z ≤ top + rowWord rs (recordingOf z) 1
+  pub near : placeOf z ≤ top + rowWord rs (recordingOf z) atRmax
 
 -- the first v words are votes in ascending order; there are as many words for the sort, and twice as many for bins
 pub record Votes (rs : List ℕ) (s : List ℤ) (v : ℕ) (q : WangQuery) : Type 0 where
@@ -60,7 +61,7 @@ pub record Votes (rs : List ℕ) (s : List ℤ) (v : ℕ) (q : WangQuery) : Type
 
 -- a posting is of a recording in the references, and "a Wang posting's anchor is at most its row's r_max"
 abbrev pub Held : List ℕ → List ℕ → Type 0
-Held rs e = (getD e 1 0 < getD rs 0 0) × (getD e 2 0 ≤ rowWord rs (getD e 1 0) 1)
+Held rs e = (getD e 1 0 < getD rs 0 0) × (getD e 2 0 ≤ rowWord rs (getD e 1 0) atRmax)
 
 -- postings and query hashes whose votes can be gathered
 pub record Posted (rs ps hs : List ℕ) (q : WangQuery) : Type 0 where
