@@ -1,7 +1,7 @@
 // A whole card. specs/Sheet.antt says what it means, specs/Turns.antt how the program goes through it; proofs/Turns.antt shows that the two are the
 // same. Here is all that the program decides: how much is read, the line of each turn, and whether the card goes on.
 ghost use mathlib.Core.Path.{_≡_};
-ghost use Prim.Native.Nat.{_+_, _≤_, _<_};
+ghost use Prim.Native.Nat.{_+_, _*_, _≤_, _<_};
 ghost use lib.ListN.{length};
 ghost use Rattle.soundness.specs.Scan.{lent};
 ghost use Rattle.sheet_text.specs.Put.{lineMost, Put};
@@ -149,9 +149,9 @@ pub fn goes_on(p: Progress) -> bool
 
 // The beginning of the sheet, by what was read of the version byte: puts the first lines into a lent buffer.
 pub fn begin(version: &[u8], line: &mut [u8]) -> Turned
-    requires { ⌜ 256 ≤ length (now line) ⌝ }
+    requires { ⌜ 2 * lineMost ≤ length (now line) ⌝ }
     ensures { λ r. ⌜ Put (now (line .entry)) (now (line .exit)) 0 (r .end) (startLines (versionFits (now (version .entry)))) ⌝ }
-    ensures { λ r. ⌜ r .end ≤ 256 ⌝ }
+    ensures { λ r. ⌜ r .end ≤ 2 * lineMost ⌝ }
     ensures { λ r. ⌜ r .next ≡ started (versionFits (now (version .entry))) ⌝ }
 {
     let fits = version_fits(version);
