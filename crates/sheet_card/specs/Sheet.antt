@@ -6,7 +6,7 @@ use Prim.Native.Nat.{ℕ, zero, suc, _+_, _*_}
 use lib.ListN.{length, getD, take, drop, replicate}
 use lib.Dec.{eqb, leb}
 use Rattle.lists.specs.Lists.{none?}
-use Rattle.model.specs.Words.{Words}
+use Rattle.model.specs.Words.{Words, headWidth, rowWidth}
 use Rattle.sheet_text.specs.Bytes.{bigEndian}
 use Rattle.sheet_records.specs.Step.{stepOf}
 use Rattle.sheet_kinds.specs.Kinds.{goodLength}
@@ -72,7 +72,7 @@ sheetOn m s =
 
 -- a zeroed store for R rows, P postings and K stopped keys
 unfoldable pub zeroed : ℕ → ℕ → ℕ → Words
-zeroed R P K = record { references = replicate (4 + 4 * R) 0; postings = replicate (3 * P) 0; stopped = replicate K 0 }
+zeroed R P K = record { references = replicate (headWidth + rowWidth * R) 0; postings = replicate (3 * P) 0; stopped = replicate K 0 }
 
 -- "Its buffers begin zeroed: R 32, P 1,024, K 256"
 unfoldable pub emptyStore : Words
