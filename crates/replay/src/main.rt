@@ -13,7 +13,7 @@
 //              min_prominence, hashes: query
 //     A        the last answer's words as the C interface has them, each in two halves; then zeros
 mod calls;
-mod slices;
+mod contents;
 mod text;
 
 ghost use mathlib.Core.Path.{_≡_};
@@ -121,7 +121,7 @@ fn run_on(
         );
         return after(st, 1, good);
     }
-    let good = slices::run(letter, line, refs, postings, stopped, answer);
+    let good = contents::run(letter, line, refs, postings, stopped, answer);
     after(st, 0, good)
 }
 
