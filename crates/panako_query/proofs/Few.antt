@@ -13,6 +13,7 @@ use Rattle.bins.specs.Votes.{leadOf, Run}
 use Rattle.matching.specs.declared.MatchResult.{MatchResult}
 use Rattle.model.specs.Query.{trackBest}
 use Rattle.model.specs.Soundness.{rowWord}
+use Rattle.model.specs.Words.{atRate}
 use Rattle.query_rank.specs.declared.Verdict.{Verdict}
 use Rattle.query_rank.specs.Verdicts.{verdictOf, resultIn}
 use Rattle.query_laws.proofs.Judged.{one-recording}
@@ -44,7 +45,7 @@ module _ (rs : List ℕ) (q : PanakoQuery) (s : List ℤ) (v n : ℕ) (A : Alike
       ap recordingOf (getD-take v s t (pos 0) lt) ∙ A .votes .one t lt)
 
   -- the best, by what the calls say
-  pub few-best : (id rate : ℕ) (r : Verdict) (best : Option (ℕ × MatchResult)) → id ≡ recordingOf (getD s 0 (pos 0)) → rate ≡ rowWord rs id 0
+  pub few-best : (id rate : ℕ) (r : Verdict) (best : Option (ℕ × MatchResult)) → id ≡ recordingOf (getD s 0 (pos 0)) → rate ≡ rowWord rs id atRate
       → r ≡ verdictOf (judgeBy q rate (votesIn s 0 v)) → best ≡ trackBest none id (resultIn r) → best ≡ bestIn q rs (take v s)
   few-best id rate r best e1 e2 e3 e4 =
       e4 ∙ rw (e3, result-of (judgeBy q rate (votesIn s 0 v)), e2, e1) (sym (one-recording (reading q) rs (take v s) (recordingOf (getD s 0 (pos 0))) K each (omega (arith, length-take-le v s short, A .votes .some))))

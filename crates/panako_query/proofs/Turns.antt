@@ -12,6 +12,7 @@ use Rattle.bins.proofs.Above.{above-le}
 use Rattle.matching.specs.declared.MatchResult.{MatchResult}
 use Rattle.model.specs.Query.{trackBest}
 use Rattle.model.specs.Soundness.{rowWord}
+use Rattle.model.specs.Words.{atRate}
 use Rattle.query_rank.specs.declared.Verdict.{Verdict}
 use Rattle.query_rank.specs.Verdicts.{verdictOf, resultIn}
 use Rattle.query_laws.specs.Candidates.{Fair, Rising}
@@ -54,7 +55,7 @@ module _ (rs : List ℕ) (q : PanakoQuery) (s₀ s : List ℤ) (v : ℕ) (best :
 
   -- a turn, by what the calls say
   pub walked-on : (s′ : List ℤ) (to : ℕ) → length s′ ≡ length s → SameOutside s s′ (2 * v) to → (id rate : ℕ) (r : Verdict) (best′ : Option (ℕ × MatchResult))
-      → id ≡ recordingOf (getD s i (pos 0)) → rate ≡ rowWord rs id 0
+      → id ≡ recordingOf (getD s i (pos 0)) → rate ≡ rowWord rs id atRate
       → r ≡ verdictOf (judgeBy q rate (votesIn s i (e - i))) → best′ ≡ trackBest best id (resultIn r) → Walked rs q s₀ s′ v best′ e
   walked-on s′ to len S id rate r best′ e1 e2 e3 e4 =
       turn (reading q) rs (Known rs) 5 (omega arith) (rises q) (λ z k. k) s₀ s v best i J h e U s′ (2 * v) to (omega arith) len S id r best′ e1

@@ -32,7 +32,7 @@ fn best_of(s: &mut [i64], v: usize, refs: &[u32], q: PanakoQuery) -> Best
     while i < v {
         let e = bins::lead_run_end(s, i, v, LOWEST, 52);
         let id = bins::lead_at(s, i, LOWEST, 52);
-        let rate = rows::row_word(refs, id as usize, 0);
+        let rate = rows::row_word(refs, id as usize, rows::AT_RATE);
         best = query_rank::keep(
             best,
             id as u32,
@@ -77,7 +77,7 @@ fn best_of_few(s: &[i64], v: usize, n: usize, refs: &[u32], q: PanakoQuery) -> B
 {
     let id = bins::lead_at(s, 0, LOWEST, 52);
     let j = id as usize;
-    let rate = rows::row_word(refs, j, 0);
+    let rate = rows::row_word(refs, j, rows::AT_RATE);
     query_rank::keep(
         Best::Nothing,
         id as u32,

@@ -17,7 +17,7 @@ use Rattle.model.specs.Rows.{Row}
 use Rattle.model.specs.Index.{ofId}
 use Rattle.model.specs.Query.{Scheme, Query, catalog, gather, votes, tooManyVotes, judged, candidate, bestBelow, bestOf}
 use Rattle.model.specs.Calls.{refused, answerOf}
-use Rattle.model.specs.Words.{Words, sizesOf, slicesListed, readRow, readPosting, readIndex}
+use Rattle.model.specs.Words.{Words, sizesOf, slicesListed, readRow, readPosting, readIndex, headWidth, rowWidth, atLive}
 use Rattle.model.specs.Soundness.{rowWord, soundWords}
 use Rattle.model.proofs.Stores.{references-long, postings-long, stopped-long, sound-facts}
 use Rattle.model.proofs.Read.{rows-long, live-row}
@@ -44,12 +44,12 @@ module _ (S : Scheme) (w2 : 2 ≤ S .width) (m : Words) (l : slicesListed (S .wi
   es = entries (S .width) (getD (m .references) 2 0) (m .postings)
 
   abbrev rows : List (Option Row)
-  rows = map readRow (entries 4 (getD (m .references) 0 0) (drop 4 (m .references)))
+  rows = map readRow (entries rowWidth (getD (m .references) 0 0) (drop headWidth (m .references)))
 
   -- a recording with a vote is live
   alive : (j : ℕ) → 0 < length (gather S a 0 (hashesOf w hs) (ofId j (map readPosting es))) → getD rows j none ≡ some (rowAt rs j)
   alive j h =
-      some-kept (λ e. eqb (getD e 1 0) j) (λ e. (getD e 1 0 < getD rs 0 0) × (rowWord rs (getD e 1 0) 2 ≡ 1)) es (live-entries w w2 m l s)
+      some-kept (λ e. eqb (getD e 1 0) j) (λ e. (getD e 1 0 < getD rs 0 0) × (rowWord rs (getD e 1 0) atLive ≡ 1)) es (live-entries w w2 m l s)
       (λ nil.
       let e = ap (gather S a 0 (hashesOf w hs)) (keep-map readPosting (λ p. eqb (p .id) j) es ∙ ap (map readPosting) nil) ∙ gather-none S a 0 (hashesOf w hs) in
       absurd (omega (arith, h, ap length e)))

@@ -14,7 +14,7 @@ use Rattle.lists.proofs.Tests.{and-left, and-right, or-false-right}
 use Rattle.lists.proofs.Entries.{length-read, all-entries, entry-word}
 use Rattle.query_search.specs.Starts.{Sought}
 use Rattle.model.specs.Fingerprints.{hashOf, hashesOf, queryMost, uneven, malformed}
-use Rattle.model.specs.Words.{Words, sizesOf, sizesListed, between, slicesListed}
+use Rattle.model.specs.Words.{Words, sizesOf, sizesListed, between, slicesListed, headWidth, rowWidth, atLive}
 use Rattle.model.specs.Soundness.{rowWord, soundWords}
 use Rattle.model.proofs.Stores.{sizes-listed, references-long, postings-long, sound-facts}
 use Rattle.model.proofs.Facts.{Facts}
@@ -47,7 +47,7 @@ module _ (w : ℕ) (w2 : 2 ≤ w) (m : Words) (l : slicesListed w m ≡ true) (s
   pub F : Facts w (sizesOf w m) rs ps (m .stopped) n (getD rs 1 0) p (getD rs 3 0)
   F = sound-facts w m w2 l s
 
-  pub rows-there : 4 + 4 * n ≤ length rs
+  pub rows-there : headWidth + rowWidth * n ≤ length rs
   rows-there = omega (arith, references-long w m w2 l, F .rows-fit)
 
   pub rows-few : n ≤ 4096
@@ -80,5 +80,5 @@ module _ (w : ℕ) (w2 : 2 ≤ w) (m : Words) (l : slicesListed w m ≡ true) (s
   }
 
   -- each posting is of a live recording
-  pub live-entries : All (λ e. (getD e 1 0 < n) × (rowWord rs (getD e 1 0) 2 ≡ 1)) (entries w p ps)
-  live-entries = all-entries (λ e. (getD e 1 0 < n) × (rowWord rs (getD e 1 0) 2 ≡ 1)) w p ps (λ i lt. rw (entry-word w i ps 1 (omega arith)) (F .id-within i lt, F .id-live i lt))
+  pub live-entries : All (λ e. (getD e 1 0 < n) × (rowWord rs (getD e 1 0) atLive ≡ 1)) (entries w p ps)
+  live-entries = all-entries (λ e. (getD e 1 0 < n) × (rowWord rs (getD e 1 0) atLive ≡ 1)) w p ps (λ i lt. rw (entry-word w i ps 1 (omega arith)) (F .id-within i lt, F .id-live i lt))

@@ -68,10 +68,12 @@ fn run(
 // ---- the buffers
 
 // R 32.
-fn zero_references() -> [u32; 132]
+const REFERENCES: usize = rows::HEAD_WIDTH + 32 * rows::ROW_WIDTH;
+
+fn zero_references() -> [u32; REFERENCES]
     ensures { λ r. ⌜ r ≡ emptyStore .references ⌝ }
 {
-    [0; 132]
+    [0; REFERENCES]
 }
 
 // P 1,024.

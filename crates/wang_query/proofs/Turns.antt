@@ -12,6 +12,7 @@ use Rattle.bins.proofs.Above.{above-le}
 use Rattle.matching.specs.declared.MatchResult.{MatchResult}
 use Rattle.model.specs.Query.{trackBest}
 use Rattle.model.specs.Soundness.{rowWord}
+use Rattle.model.specs.Words.{atRate, atRmax}
 use Rattle.wang_judge.specs.declared.WangQuery.{WangQuery}
 use Rattle.query_rank.specs.declared.Verdict.{Verdict}
 use Rattle.wang_judge.specs.Judge.{judgeBy}
@@ -60,7 +61,7 @@ module _ (rs : List ℕ) (q : WangQuery) (s₀ s : List ℤ) (v : ℕ) (best : O
 
   -- a turn, by what the calls say
   pub walked-on : (s′ : List ℤ) (to : ℕ) → length s′ ≡ length s → SameOutside s s′ (2 * v) to → (id rate rmax : ℕ) (r : Verdict) (best′ : Option (ℕ × MatchResult))
-      → id ≡ recordingOf (getD s i (pos 0)) → rate ≡ rowWord rs id 0 → rmax ≡ rowWord rs id 1
+      → id ≡ recordingOf (getD s i (pos 0)) → rate ≡ rowWord rs id atRate → rmax ≡ rowWord rs id atRmax
       → r ≡ verdictOf (judgeBy q (record { rate = rate; rmax = rmax }) (countsIn (q .«q_max») s i (e - i))) → best′ ≡ trackBest best id (resultIn r) → Walked rs q s₀ s′ v best′ e
   unfolding countsIn
   walked-on s′ to len S id rate rmax r best′ e1 e2 e3 e4 e5 =

@@ -26,8 +26,8 @@ fn best_of(s: &mut [i64], v: usize, refs: &[u32], q: WangQuery) -> Best
         let e = bins::lead_run_end(s, i, v, 0, 44);
         let id = bins::lead_at(s, i, 0, 44);
         let j = id as usize;
-        let rate = rows::row_word(refs, j, 0);
-        let r_max = rows::row_word(refs, j, 1);
+        let rate = rows::row_word(refs, j, rows::AT_RATE);
+        let r_max = rows::row_word(refs, j, rows::AT_RMAX);
         best = query_rank::keep(
             best,
             id as u32,
