@@ -21,7 +21,7 @@ ghost use Prim.Native.Nat.{_<_};
 use text::Line;
 
 // Stores of at most 40 references, 512 entries of Panako and 64 stopped keys, scratch for 512 votes of Panako, lines of at most 4,224 words.
-const REFS: usize = 164;
+const REFS: usize = rows::HEAD_WIDTH + 40 * rows::ROW_WIDTH;
 
 const POSTINGS: usize = 2560;
 
