@@ -185,12 +185,6 @@ fn mark(seen: &mut [u8; 2048], s: &[i64], a: usize, g: usize, tol: u64, x: u64)
     }
 }
 
-fn wide(x: u8) -> u64
-    ensures { λ r. ⌜ r ≡ x ⌝ }
-{
-    x as u64
-}
-
 // How many of the first m positions are marked.
 fn count_marks(seen: &[u8; 2048], m: usize) -> u64
     requires { ⌜ (m ≤ 2048) × ((i : ℕ) → i < m → getD (now seen) i 0 ≤ 1) ⌝ }
@@ -199,7 +193,7 @@ fn count_marks(seen: &[u8; 2048], m: usize) -> u64
     let mut n: u64 = 0;
     let mut i = 0;
     while i < m {
-        n += wide(seen[i]);
+        n += slices::wide_byte(seen[i]);
         i += 1;
     }
     n

@@ -15,10 +15,12 @@ use Rattle.lists.specs.Entries.{entries, padded, Wide, keysAscend}
 use Rattle.lists.proofs.Tests.{test, or-false-left, or-false-right}
 use Rattle.lists.proofs.Keep.{none-pass, all-imp, all-map}
 use Rattle.lists.proofs.Entries.{entries-take, entries-flat, entries-sorted}
+use Rattle.maps.specs.Puts.{entryOf}
+use Rattle.maps.proofs.Puts.{length-entryOf}
 use Rattle.build_ranges.specs.Codes.{rankOf, hashPlace, inOrder, Fit}
 use Rattle.build_stops.specs.Over.{keyIn, overKeys, keysOf, kept}
 use Rattle.build_stops.proofs.Walk.{length-codes}
-use Rattle.build_entries.specs.Laid.{entryOf, laidEntries}
+use Rattle.build_entries.specs.Laid.{laidEntries}
 use Rattle.build_entries.proofs.Placing.{Names, place-small, order-names}
 use Rattle.model.specs.Fingerprints.{Fingerprint, hashesOf, fingerprintsOf, hashCount, uneven, malformedBuild, referenceMost}
 use Rattle.model.specs.Rows.{rowOf}
@@ -162,18 +164,17 @@ module _ (w : ℕ) (hashes lengths rates : List ℕ) (b : malformedBuild w hashe
 module _ (hashes : List ℕ) (w : ℕ) (lengths : List ℕ) (w3 : 3 ≤ w) (fit : Fit hashes (w - 1) lengths) where
   pub length-laid : length (laidEntries hashes w lengths) ≡ sum lengths
   unfolding laidEntries
-  length-laid = length-map (inOrder hashes (w - 1) lengths) (λ c. entryOf hashes w (hashPlace lengths (rankOf c)) (rankOf c / 8192)) ∙ length-codes hashes (w - 1) lengths
+  length-laid = length-map (inOrder hashes (w - 1) lengths) (λ c. entryOf (w - 1) hashes (rankOf c / 8192) (hashPlace lengths (rankOf c))) ∙ length-codes hashes (w - 1) lengths
 
   pub wide-laid : Wide w (laidEntries hashes w lengths)
   unfolding laidEntries
-  wide-laid = all-map (λ c. entryOf hashes w (hashPlace lengths (rankOf c)) (rankOf c / 8192)) (λ e. length e ≡ w) (inOrder hashes (w - 1) lengths)
-      (all-imp (λ c. Names lengths (rankOf c)) (λ c. length (entryOf hashes w (hashPlace lengths (rankOf c)) (rankOf c / 8192)) ≡ w) (λ c h. wide (hashPlace lengths (rankOf c)) (place-small lengths (rankOf c) h)) (inOrder hashes (w - 1) lengths) (order-names hashes w lengths fit))
+  wide-laid = all-map (λ c. entryOf (w - 1) hashes (rankOf c / 8192) (hashPlace lengths (rankOf c))) (λ e. length e ≡ w) (inOrder hashes (w - 1) lengths)
+      (all-imp (λ c. Names lengths (rankOf c)) (λ c. length (entryOf (w - 1) hashes (rankOf c / 8192) (hashPlace lengths (rankOf c))) ≡ w) (λ c h. wide (rankOf c / 8192) (hashPlace lengths (rankOf c)) (place-small lengths (rankOf c) h)) (inOrder hashes (w - 1) lengths) (order-names hashes w lengths fit))
     where
-      wide : (i : ℕ) → i < sum lengths → suc (suc (length (take (w - 2) (drop ((w - 1) * i + 1) hashes)))) ≡ w
-      wide i lt =
+      wide : (id i : ℕ) → i < sum lengths → length (entryOf (w - 1) hashes id i) ≡ w
+      wide id i lt =
           let room : (w - 1) * i + (w - 1) ≤ length hashes = rw mul-suc at (le-trans (mul-le-mul-left (w - 1) lt) (fit .whole)) in
-          let l : length (take (w - 2) (drop ((w - 1) * i + 1) hashes)) ≡ w - 2 = length-take-le (w - 2) (drop ((w - 1) * i + 1) hashes) (rw lib.ListN.length-drop (omega arith)) in
-          omega arith
+          length-entryOf (w - 1) hashes id i (omega arith) room ∙ omega arith
 
   -- read back
   pub entries-laid : (m : ℕ) (s : List ℕ) → m ≡ sum lengths → take (w * sum lengths) s ≡ flat (laidEntries hashes w lengths) → entries w m s ≡ laidEntries hashes w lengths

@@ -9,7 +9,7 @@ use lib.ListN.{length, getD, take, drop, length-drop}
 use lib.Seq.{ext-getD, getD-drop, getD-take, drop-drop, drop-cons, length-take-le}
 use Rattle.lists.specs.Lists.{All, sum}
 use Rattle.lists.specs.Entries.{entries, entryAt, keyAt}
-use Rattle.lists.proofs.Entries.{read-at, entry-key, drop-take}
+use Rattle.lists.proofs.Entries.{read-at, entry-key}
 use Rattle.build_ranges.specs.Codes.{tabulate, ranksFrom, hashPlace}
 use Rattle.build_ranges.proofs.Ranks.{listed-same, map-listed, length-listed, place-is, sum-more}
 use Rattle.model.specs.Fingerprints.{Hash, hashOf, hashesOf, hashCount, divided}
@@ -18,15 +18,12 @@ use Rattle.model.proofs.Fingerprints.{length-hashes}
 
 -- the hash at place i, and the posting of a rank
 abbrev pub hashAt : List ℕ → ℕ → ℕ → Hash
-hashAt words w i = record { key = keyAt words (w - 1) i; times = take (w - 2) (drop ((w - 1) * i + 1) words) }
+hashAt words w i = record { key = keyAt words (w - 1) i; times = drop 1 (entryAt (w - 1) i words) }
 
 hash-is : (words : List ℕ) (w i : ℕ) → 2 ≤ w → hashOf (entryAt (w - 1) i words) ≡ hashAt words w i
 hash-is words w i h =
-    let a : w - 1 ≡ 1 + (w - 2) = omega arith in
     let k : getD (entryAt (w - 1) i words) 0 0 ≡ keyAt words (w - 1) i = entry-key (w - 1) i words (omega arith) in
-    let t : drop 1 (entryAt (w - 1) i words) ≡ take (w - 2) (drop ((w - 1) * i + 1) words) =
-    ap (λ n. drop 1 (take n (drop ((w - 1) * i) words))) a ∙ drop-take 1 (w - 2) (drop ((w - 1) * i) words) ∙ ap (take (w - 2)) (drop-drop 1 ((w - 1) * i) words) in
-    λ j. record { key = k j; times = t j }
+    λ j. record { key = k j; times = drop 1 (entryAt (w - 1) i words) }
 
 abbrev pub postOf : List ℕ → ℕ → List ℕ → ℕ → Posting
 postOf words w lengths r = record { id = r / 8192; hash = hashAt words w (hashPlace lengths r) }

@@ -23,7 +23,8 @@ use Rattle.build_ranges.proofs.Order.{ordered-is, keep-same}
 use Rattle.build_stops.proofs.Walk.{sum-few}
 use Rattle.build_sort.specs.Digits.{placeBy, keyBy, Readable, Ranks, Keyed}
 use Rattle.build_sort.proofs.Order.{placeAll-same}
-use Rattle.build_entries.specs.Laid.{entryOf, entryBy, laidEntries, StartsTo}
+use Rattle.maps.specs.Puts.{entryOf}
+use Rattle.build_entries.specs.Laid.{entryBy, laidEntries, StartsTo}
 
 -- a rank names a hash of a recording
 pub record Names (lengths : List ℕ) (r : ℕ) : Type 0 where
@@ -156,7 +157,7 @@ module _ (words : List ℕ) (w : ℕ) (lengths starts : List ℕ) (fit : Fit wor
   unfolding laidEntries keyBy
   laid-ranks =
       let keyR : ℕ → ℕ = λ r. keyAt words (w - 1) (hashPlace lengths r) in
-      let entryR : ℕ → List ℕ = λ r. entryOf words w (hashPlace lengths r) (r / 8192) in
+      let entryR : ℕ → List ℕ = λ r. entryOf (w - 1) words (r / 8192) (hashPlace lengths r) in
       let sorted : List ℕ = placeAll keyR ranks [] in
       ap (map (entryBy words w starts)) (placeAll-same (keyBy words (w - 1) starts) keyR ranks (all-imp (Names lengths) (λ r. keyBy words (w - 1) starts r ≡ keyR r) (λ r h. rw (place-by r h)) ranks names))
       ∙ map-same (entryBy words w starts) entryR sorted (all-imp (Names lengths) (λ r. entryBy words w starts r ≡ entryR r) (λ r h. rw (place-by r h)) sorted (all-placeAll keyR (Names lengths) ranks [] names tt))

@@ -6,13 +6,13 @@ use Prim.Native.Nat.{ℕ, suc, _+_, _*_, _-_, _≤_, _<_}
 use native.Mathlib.Nat.{mul-zero, mul-suc, suc-mul, mul-le-mul-left}
 use native.Mathlib.Numerals.{add-one}
 use native.Mathlib.Omega.{arith}
-use lib.ListN.{length, getD, take, drop, set, length-set}
+use lib.ListN.{length, getD, take, set, length-set}
 use lib.Seq.{take-suc, take-suc-set, getD-set-same, getD-set-other}
 use Rattle.lists.specs.Lists.{flat, sum}
 use Rattle.lists.proofs.Keep.{flat-append, flat-one}
 use Rattle.model.specs.Words.{headWidth, rowWidth}
-use Rattle.slices.specs.Parts.{pasted}
-use Rattle.slices.proofs.Pasted.{front-pasted, same-pasted}
+use Rattle.maps.specs.Puts.{put}
+use Rattle.maps.proofs.Puts.{take-put, same-put}
 use Rattle.build_ranges.specs.Codes.{tabulate}
 use Rattle.build_ranges.proofs.Ranks.{listed-more}
 use Rattle.build_entries.specs.Laid.{SameFrom, StartsTo}
@@ -84,18 +84,11 @@ starts-more starts lengths i total h e s k l = go (Rattle.lists.proofs.Tests.le
 
 -- ---- one entry
 
--- the key and the id are set, then the times copied
-pub entry-done : (p p′ : List ℕ) (w to key id : ℕ) (words : List ℕ) (from : ℕ) → 2 ≤ w → to + w ≤ length p → from + (w - 2) ≤ length words
-    → p′ ≡ pasted (set (set p to key) (to + 1) id) (to + 2) words from (w - 2)
-    → (take (to + w) p′ ≡ take to p ++ key ∷ id ∷ take (w - 2) (drop from words)) × SameFrom (to + w) p p′
-entry-done p p′ w to key id words from h l k e =
-    let q = set (set p to key) (to + 1) id in
-    let a : to + 2 + (w - 2) ≡ to + w = omega arith in
-    let room : to + 2 + (w - 2) ≤ length q = simp length-set (omega arith) in
-    let rest = take (w - 2) (drop from words) in (
-      rw e (rw a at (front-pasted q (to + 2) words from (w - 2) room k) ∙ ap (λ m. m ++ rest) (put-two p to key id (omega arith)) ∙ append-assoc (take to p) (key ∷ id ∷ []) rest),
-      λ i g. rw e (same-pasted q (to + 2) words from (w - 2) room k i (omega arith) ∙ getD-set-other (set p to key) (to + 1) i id 0 (λ e. omega arith) ∙ getD-set-other p to i key 0 (λ e. omega arith)),
-    )
+pub entry-done : (p p′ : List ℕ) (w to : ℕ) (e : List ℕ) → length e ≡ w → to + w ≤ length p → p′ ≡ put p to e
+    → (take (to + w) p′ ≡ take to p ++ e) × SameFrom (to + w) p p′
+entry-done p p′ w to e long h q =
+    let room : to + length e ≤ length p = rw long h in
+    (rw q (rw long at (take-put p to e room)), λ i g. rw q (same-put p to e room i (rw long g)))
 
 -- ---- rows, one behind the other
 

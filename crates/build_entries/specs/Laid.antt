@@ -5,20 +5,16 @@ use mathlib.Core.Option.{some}
 use Prim.Native.Nat.{ℕ, _+_, _*_, _-_, _/_, _≤_, _<_}
 use lib.ListN.{getD, take, drop}
 use Rattle.lists.specs.Lists.{sum}
-use Rattle.lists.specs.Entries.{keyAt}
+use Rattle.maps.specs.Puts.{entryOf}
 use Rattle.build_sort.specs.Digits.{placeBy}
 use Rattle.build_ranges.specs.Codes.{rankOf, hashPlace, inOrder}
 use Rattle.model.specs.Fingerprints.{hashesOf}
 use Rattle.model.specs.Rows.{rowOf}
 use Rattle.model.specs.Words.{rowWords}
 
--- the entry of hash i, of w - 1 words, for recording id: "(key, id, t_anchor)", "(key, id, t_anchor, t_b, t_c)"
-abbrev pub entryOf : List ℕ → ℕ → ℕ → ℕ → List ℕ
-entryOf words w i id = keyAt words (w - 1) i ∷ id ∷ take (w - 2) (drop ((w - 1) * i + 1) words)
-
--- that of the hash that a rank names, by the recordings' first hashes
+-- the entry of the hash that a rank names, by the recordings' first hashes
 abbrev pub entryBy : List ℕ → ℕ → List ℕ → ℕ → List ℕ
-entryBy words w starts r = entryOf words w (placeBy starts r) (r / 8192)
+entryBy words w starts r = entryOf (w - 1) words (r / 8192) (placeBy starts r)
 
 -- from place a on the words are as they were
 abbrev pub SameFrom : ℕ → List ℕ → List ℕ → Type 0
@@ -26,7 +22,7 @@ SameFrom a s s′ = (i : ℕ) → a ≤ i → getD s′ i 0 ≡ getD s i 0
 
 -- all entries, in key order and within a key in arrival order
 unfoldable pub laidEntries : List ℕ → ℕ → List ℕ → List (List ℕ)
-laidEntries words w lengths = map (λ c. entryOf words w (hashPlace lengths (rankOf c)) (rankOf c / 8192)) (inOrder words (w - 1) lengths)
+laidEntries words w lengths = map (λ c. entryOf (w - 1) words (rankOf c / 8192) (hashPlace lengths (rankOf c))) (inOrder words (w - 1) lengths)
 
 -- the recordings' first hashes, up to the first i
 abbrev pub StartsTo : List ℕ → List ℕ → ℕ → Type 0

@@ -10,21 +10,18 @@ ghost use Rattle.build_sort.specs.Digits.{Readable};
 ghost use Rattle.model.specs.Fingerprints.{hashesOf};
 ghost use Rattle.model.specs.Rows.{hasRmax, largestAnchor};
 ghost use Rattle.model.specs.Words.{headWidth, rowWidth};
-ghost use Rattle.build_entries.specs.Laid.{entryOf, entryBy, SameFrom, laidEntries, StartsTo, rowFor};
+ghost use Rattle.maps.specs.Puts.{entryOf};
+ghost use Rattle.build_entries.specs.Laid.{entryBy, SameFrom, laidEntries, StartsTo, rowFor};
 use slices::at;
 use slices::size;
 
 // Hash i becomes entry e, for recording id.
 fn lay_entry(posts: &mut [u32], w: usize, e: usize, hashes: &[u32], i: usize, id: u32)
     requires { ⌜ (2 ≤ w) × (w * e + w ≤ length (now posts)) × ((w - 1) * i + (w - 1) ≤ length (now hashes)) ⌝ }
-    ensures { λ _. ⌜ (take (w * e + w) (now (posts .exit)) ≡ take (w * e) (now (posts .entry)) ++ entryOf (now (hashes .entry)) w i id)
+    ensures { λ _. ⌜ (take (w * e + w) (now (posts .exit)) ≡ take (w * e) (now (posts .entry)) ++ entryOf (w - 1) (now (hashes .entry)) id i)
         × SameFrom (w * e + w) (now (posts .entry)) (now (posts .exit)) ⌝ }
 {
-    let to = w * e;
-    let from = (w - 1) * i;
-    posts[to] = at(hashes, from);
-    posts[to + 1] = id;
-    slices::copy_words(posts, to + 2, hashes, from + 1, w - 2);
+    maps::put_entry(posts, w * e, hashes, w - 1, i, id);
 }
 
 // The first hash of each recording.

@@ -8,11 +8,10 @@ use Rattle.model.specs.Calls.{Answer, built, stored, removed, count, best, noth
 use Rattle.model.specs.Query.{Query}
 use Rattle.model.specs.Words.{Words}
 use Rattle.query_rank.specs.Answers.{scratchAfter}
-use Rattle.wang_judge.specs.Scheme.{configOf, wang}
-use Rattle.wang_query.specs.Arguments.{queryWith}
+use Rattle.wang_judge.specs.Scheme.{configOf, wang, queryWith}
 use Rattle.panako_vote.specs.declared.PanakoMatchConfig.{PanakoMatchConfig}
 use Rattle.panako_judge.specs.Scheme.{panako}
-use Rattle.panako_query.specs.Arguments as of-panako
+use Rattle.panako_judge.specs.Scheme as of-panako
 use Rattle.capi.specs.Codes.{single, flag, twosComplement}
 
 abbrev pub caseWords : ℕ → ℕ → List ℕ

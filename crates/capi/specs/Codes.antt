@@ -5,6 +5,7 @@ use Prim.Native.Nat.{ℕ, _-_, _^_}
 use lib.IntN.{ℤ, pos, negsuc}
 use lib.Dec.{leb}
 use lib.Ieee.{Float, binary32, binary64, ofBits, toBits, le}
+use Rattle.floats.specs.Words.{nanWord}
 use Rattle.floats.specs.Rounding.{narrow}
 use Rattle.matching.specs.declared.Ordering.{Ordering}
 use Rattle.matching.specs.declared.Ordering.the-variants.{Less, Equal, Greater}
@@ -18,10 +19,6 @@ single word = ofBits binary32 word
 
 abbrev pub double : ℕ → Float
 double word = ofBits binary64 word
-
--- the pattern that is written for a NaN
-abbrev pub nanWord : ℕ
-nanWord = 0x7FC0_0000
 
 abbrev pub flag : Bool → ℕ
 flag true = 1

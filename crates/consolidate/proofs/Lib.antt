@@ -1,4 +1,4 @@
-pub mod Signed
+pub mod Quotients
 pub mod Ceiling
 pub mod Leading
 pub mod Sliding

@@ -18,8 +18,8 @@ use Rattle.consolidate.specs.Limits.{Bins, Span}
 use Rattle.consolidate.specs.Windows.{withinℕ, windowSum}
 use Rattle.consolidate.specs.Sweeping.{Placed}
 use Rattle.maps.proofs.Sums.{sum-cong}
-use Rattle.maps.proofs.Signed.{abs-sub}
-use Rattle.consolidate.proofs.Signed.{leZ-trans}
+use Rattle.signed.proofs.Sizes.{abs-sub}
+use Rattle.signed.proofs.Order.{leZ-trans}
 use Rattle.consolidate.proofs.Sliding.{climbs}
 
 pub leb-same : (a b c d : ℕ) → (a ≤ b → c ≤ d) → (b < a → d < c) → leb a b ≡ leb c d

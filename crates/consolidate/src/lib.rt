@@ -5,7 +5,7 @@ ghost use mathlib.Core.Bool.{_||_};
 ghost use Prim.Native.Nat.{ℕ, _+_, _-_, _*_, _<_, _≤_, _^_, min};
 ghost use lib.ListN.{length, getD};
 ghost use lib.IntN.{ℤ, pos, natAbs, _+ℤ_};
-ghost use lib.Signed.{nonNeg, leZ, ltZ};
+ghost use lib.Signed.{ltZ};
 ghost use lib.Dec.{leb};
 ghost use Rattle.maps.specs.Bins.{offset, votes, place};
 ghost use Rattle.maps.specs.Sums.{sumTo};
@@ -16,6 +16,10 @@ ghost use Rattle.consolidate.specs.Limits.{Bins, binOk, binsOk, Span, en
 ghost use Rattle.consolidate.specs.Windows.{windowSum, Passed, Slides, Covers};
 ghost use Rattle.consolidate.specs.Tallies.{tallyOf};
 ghost use Rattle.consolidate.specs.Sweeping.{Placed, Next, betterOf, Swept};
+use signed::is_at_most;
+use signed::is_less;
+use signed::is_natural;
+use signed::unsigned_abs;
 
 // The offset that is reported for a peak, if there is one.
 pub enum Mode {
@@ -49,35 +53,6 @@ pub fn word_at(s: &[i64], j: usize) -> i64
     ensures { λ r. ⌜ r ≡ getD (now (s .entry)) j (pos 0) ⌝ }
 {
     s[j]
-}
-
-// Rust's `x.unsigned_abs()`.
-pub fn unsigned_abs(x: i64) -> u64
-    ensures { λ r. ⌜ r ≡ natAbs x ⌝ }
-{
-    if x < 0 {
-        let below = 0 - (x + 1);
-        return below as u64 + 1;
-    }
-    x as u64
-}
-
-pub fn is_natural(x: i64) -> bool
-    ensures { λ r. ⌜ r ≡ nonNeg x ⌝ }
-{
-    x >= 0
-}
-
-pub fn is_less(a: i64, b: i64) -> bool
-    ensures { λ r. ⌜ r ≡ ltZ a b ⌝ }
-{
-    a < b
-}
-
-fn is_at_most(a: i64, b: i64) -> bool
-    ensures { λ r. ⌜ r ≡ leZ a b ⌝ }
-{
-    a <= b
 }
 
 // a - b, and 0 where b is more.

@@ -15,7 +15,7 @@ use mir.Syntax.{w64}
 use mir.Val.{SFits, toZ, ofZ}
 use mir.ValLaws.{toZ-ofZ, toZ-pos}
 use Rattle.maps.specs.Sums.{sumTo, when}
-use Rattle.maps.proofs.Signed.{fits-abs, abs-sub}
+use Rattle.signed.proofs.Sizes.{fits-abs, abs-sub}
 use Rattle.maps.proofs.Sums.{sum-zero, sum-next, sum-cong, sum-mono, sum-kept}
 use Rattle.consolidate.specs.Tallies.{tallyOf}
 use Rattle.consolidate.specs.Modes.{nearestMean}

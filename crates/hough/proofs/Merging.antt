@@ -15,8 +15,7 @@ use Rattle.consolidate.specs.Windows.{withinℕ, windowSum, Covers}
 use Rattle.consolidate.specs.declared.Tally.{Tally}
 use Rattle.consolidate.specs.declared.Window.{Window}
 use Rattle.maps.proofs.Sums.{sum-cong, sum-add, sum-none}
-use Rattle.maps.proofs.Signed.{abs-add}
-use Rattle.consolidate.proofs.Signed.{sub-dist}
+use Rattle.signed.proofs.Sizes.{abs-add, sub-dist}
 use Rattle.consolidate.proofs.Tallies.{Tallied, mode-none, mode-some}
 use Rattle.hough.specs.Hough.{scale, offset, votes, dist, gap, neighbour, frame, merged, peakOffset}
 use Rattle.hough.specs.Limits.{Bins}

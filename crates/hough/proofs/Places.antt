@@ -14,8 +14,7 @@ use Rattle.lists.proofs.Tests.{test, or-else, and-left, and-right}
 use Rattle.maps.specs.Sums.{sumTo, when}
 use Rattle.consolidate.specs.Windows.{withinℕ, windowSum}
 use Rattle.maps.proofs.Sums.{sum-zero, sum-cong, sum-add, sum-mono, sum-term, sum-kept}
-use Rattle.maps.proofs.Signed.{fits-abs}
-use Rattle.consolidate.proofs.Signed.{sub-dist}
+use Rattle.signed.proofs.Sizes.{fits-abs, sub-dist}
 use Rattle.maps.proofs.Tests.{holds, is-true}
 use Rattle.consolidate.proofs.Sliding.{Ascend, climbs}
 use Rattle.hough.specs.Hough.{scale, offset, votes, dist, gap, neighbour, houghSum}

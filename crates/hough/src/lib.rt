@@ -551,9 +551,9 @@ fn rises(s: &[i64], n: usize, i: usize) -> bool
     if n <= next {
         return true;
     }
-    let a = consolidate::unsigned_abs(consolidate::word_at(s, 3 * i));
-    let b = consolidate::unsigned_abs(consolidate::word_at(s, 3 * next));
-    let up = consolidate::is_less(
+    let a = signed::unsigned_abs(consolidate::word_at(s, 3 * i));
+    let b = signed::unsigned_abs(consolidate::word_at(s, 3 * next));
+    let up = signed::is_less(
         consolidate::word_at(s, 3 * i + 1),
         consolidate::word_at(s, 3 * next + 1),
     );
@@ -567,9 +567,9 @@ fn bin_ok(s: &[i64], n: usize, i: usize) -> bool
     let a = consolidate::word_at(s, 3 * i);
     let d = consolidate::word_at(s, 3 * i + 1);
     let v = consolidate::word_at(s, 3 * i + 2);
-    let scale_ok = consolidate::is_natural(a) & (consolidate::unsigned_abs(a) <= 4095);
-    let close = consolidate::unsigned_abs(d) <= 549755813888;
-    scale_ok & (close & (consolidate::is_natural(v) & rises(s, n, i)))
+    let scale_ok = signed::is_natural(a) & (signed::unsigned_abs(a) <= 4095);
+    let close = signed::unsigned_abs(d) <= 549755813888;
+    scale_ok & (close & (signed::is_natural(v) & rises(s, n, i)))
 }
 
 fn all_bins_ok(s: &[i64], n: usize) -> bool

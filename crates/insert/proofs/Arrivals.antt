@@ -20,7 +20,8 @@ use Rattle.model.specs.Index.{Posting, Index, keyOf, posted, unskipped, exceeds
 use Rattle.model.specs.Words.{postingWords}
 use Rattle.model.proofs.Parts.{ascending-stopKeys}
 use Rattle.model.proofs.Agree.{stoppedAfter-is}
-use Rattle.insert_merge.specs.Order.{upTo, unstoppedAt, taken, ordered, OverKeys, entryOf, entriesOf, without}
+use Rattle.insert_merge.specs.Order.{upTo, unstoppedAt, taken, ordered, OverKeys, entriesOf, without}
+use Rattle.maps.specs.Puts.{entryOf}
 use Rattle.insert_merge.proofs.Ordered.{under-ordered}
 use Rattle.insert.proofs.Times.{some-kept, keep-keep, times-map, member-placeAll, ascending-placeAll, placeAll-same, keep-placeAll}
 

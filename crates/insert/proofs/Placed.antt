@@ -15,9 +15,10 @@ use Rattle.lists.proofs.Keep.{length-flat, length-keep, all-keep, all-map, all-
 use Rattle.lists.proofs.Place.{sorted-keep, sorted-map, all-placeAll, length-placeAll, placeAll-map}
 use Rattle.lists.proofs.Entries.{entries-flat, entries-take, wide-entries, length-entries, sorted-entries, entries-sorted, padded-take, length-padded}
 use Rattle.postings.specs.Retain.{unnamed, staying, retained}
-use Rattle.insert_merge.specs.Order.{unstoppedAt, placeIn, placesIn, entryOf, entriesOf, without}
+use Rattle.insert_merge.specs.Order.{unstoppedAt, placeIn, placesIn, entriesOf, without}
 use Rattle.insert_merge.specs.Merge.{merged}
-use Rattle.insert_merge.proofs.Pasted.{length-entryOf}
+use Rattle.maps.specs.Puts.{entryOf}
+use Rattle.maps.proofs.Puts.{length-entryOf}
 use Rattle.insert_merge.proofs.Writing.{length-places, place-at}
 use Rattle.insert.specs.Writing.{Placing, placedEntries, Stopping}
 

@@ -1,5 +1,4 @@
 pub mod Taken
-pub mod Pasted
 pub mod Writing
 pub mod Back
 pub mod Merging

@@ -3,6 +3,6 @@ pub mod Tests
 pub mod Sums
 pub mod Lists
 pub mod Words
-pub mod Signed
 pub mod Entries
 pub mod Members
+pub mod Puts

@@ -10,7 +10,7 @@ use lib.IntN.{ℤ, pos, natAbs, _+ℤ_, +ℤ-idr}
 use lib.Dec.{ltb}
 use borrow.Author.Tests.{lt-ltb, le-ltb}
 use Rattle.maps.specs.Sums.{sumTo, sumToℤ, greatest, first, when, whenℤ}
-use Rattle.maps.proofs.Signed.{abs-add}
+use Rattle.signed.proofs.Sizes.{abs-add}
 
 back : (l e : ℕ) → l ≤ e → l + (e - l) ≡ e
 back l e h = omega arith

@@ -4,3 +4,4 @@ pub mod Words
 pub mod Entries
 pub mod Bins
 pub mod Examples
+pub mod Puts

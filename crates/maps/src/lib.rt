@@ -9,6 +9,7 @@ ghost use Rattle.lists.specs.Entries.{entries, keyOf, keyAt, keysAscend};
 ghost use Rattle.lists.specs.Keys.{under, Ascending};
 ghost use Rattle.maps.specs.Words.{natOf};
 ghost use Rattle.maps.specs.Entries.{firstAt, Split};
+ghost use Rattle.maps.specs.Puts.{entryOf, put};
 use slices::wide;
 
 // The key of entry i, of entries w words wide.
@@ -17,6 +18,17 @@ pub fn key_at(posts: &[u32], w: usize, i: usize) -> u32
     ensures { λ r. ⌜ r ≡ keyAt (now (posts .entry)) w i ⌝ }
 {
     posts[w * i]
+}
+
+// The hash at place j, of v words, goes to posts at `to`, as an entry of recording id.
+pub fn put_entry(posts: &mut [u32], to: usize, hashes: &[u32], v: usize, j: usize, id: u32)
+    requires { ⌜ (1 ≤ v) × (v * j + v ≤ length (now hashes)) × (to + (v + 1) ≤ length (now posts)) ⌝ }
+    ensures { λ _. ⌜ now (posts .exit) ≡ put (now (posts .entry)) to (entryOf v (now (hashes .entry)) id j) ⌝ }
+{
+    let from = v * j;
+    posts[to] = slices::at(hashes, from);
+    posts[to + 1] = id;
+    slices::copy_words(posts, to + 2, hashes, from + 1, v - 1);
 }
 
 // Whether the keys of the first p entries ascend.

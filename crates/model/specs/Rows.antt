@@ -6,6 +6,7 @@ use Prim.Native.Nat.{ℕ, max}
 use lib.ListN.{getD}
 use lib.Dec.{eqb, leb}
 use lib.Ieee.{binary32, nanBits}
+use Rattle.floats.specs.Words.{nanWord}
 use Rattle.model.specs.Fingerprints.{Hash, Fingerprint}
 
 -- what a live row says: the word of its rate's bits, and r_max
@@ -26,7 +27,7 @@ largestAnchor (h ∷ hs) = max (anchor h) (largestAnchor hs)
 
 -- the rate of a dead row, and of a live one that is a NaN
 abbrev pub noRate : ℕ
-noRate = 0x7FC0_0000
+noRate = nanWord
 
 -- "a live NaN rate is stored as that word"
 unfoldable pub canonical : ℕ → ℕ

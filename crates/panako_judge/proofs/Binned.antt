@@ -13,7 +13,8 @@ use borrow.Author.Tests.{eq-eqb, lt-ltb, le-ltb, lt-leb}
 use Rattle.lists.specs.Lists.{All}
 use Rattle.lists.proofs.Keep.{all-at}
 use Rattle.maps.proofs.Sums.{sum-cong}
-use Rattle.consolidate.proofs.Signed.{sub-dist, leZ-ltZ}
+use Rattle.signed.proofs.Sizes.{sub-dist}
+use Rattle.signed.proofs.Order.{leZ-ltZ}
 use Rattle.consolidate.proofs.Spans.{le-shift}
 use Rattle.hough.specs.Hough.{scale, votes}
 use Rattle.hough.specs.Limits.{Bins}

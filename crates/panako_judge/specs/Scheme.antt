@@ -8,7 +8,7 @@ use lib.Ieee.{Float}
 use Rattle.matching.specs.declared.MatchResult.{MatchResult}
 use Rattle.model.specs.Fingerprints.{Hash}
 use Rattle.model.specs.Rows.{Row, anchor}
-use Rattle.model.specs.Query.{Scheme}
+use Rattle.model.specs.Query.{Scheme, Query}
 use Rattle.panako_vote.specs.Settings.{normalised, withinLimits}
 use Rattle.panako_vote.specs.Votes.{pairVote}
 use Rattle.panako_vote.specs.Words.{Vote, asList}
@@ -55,3 +55,7 @@ panako = record {
   vote = λ a i h g. votesOf a h g;
   judge = judge;
 }
+
+-- settings as they come, rate, the words of the hashes, and how many words of scratch are lent
+abbrev pub queryWith : PanakoMatchConfig → Float → List ℕ → ℕ → Query panako
+queryWith cfg rate hs scratch = record { ask = record { cfg = cfg; rate = rate }; words = hs; scratch = scratch }

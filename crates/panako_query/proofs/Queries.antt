@@ -22,10 +22,9 @@ use Rattle.query_laws.proofs.Gathering.{RightAll, right-all}
 use Rattle.query_laws.proofs.Sound as sound
 use Rattle.query_laws.proofs.Queries as queries
 use Rattle.panako_judge.specs.declared.PanakoQuery.{PanakoQuery}
-use Rattle.panako_judge.specs.Scheme.{Ask, settings, beyond, queryOf, judge, panako}
+use Rattle.panako_judge.specs.Scheme.{Ask, settings, beyond, queryOf, judge, panako, queryWith}
 use Rattle.panako_judge.proofs.Votes.{within}
 use Rattle.panako_votes.specs.Gathered.{pairWords}
-use Rattle.panako_query.specs.Arguments.{queryWith}
 use Rattle.panako_query.specs.Candidates.{reading, postingsIn, hashesIn, answerIn, Posted}
 use Rattle.panako_query.proofs.Pairs.{SmallHash, SmallPosting, small-hashes, small-postings, right}
 

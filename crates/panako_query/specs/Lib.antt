@@ -1,3 +1,2 @@
--- A Panako query as the model has it; its candidates from the words of its votes.
-pub mod Arguments
+-- A Panako query's candidates from the words of its votes.
 pub mod Candidates

@@ -3,10 +3,6 @@
 ghost use Prim.Native.Nat.{_≤_};
 ghost use lib.ListN.{length};
 
-pub fn is_call(letter: u8) -> bool {
-    (letter == b'B') | (letter == b'I') | (letter == b'D') | (letter == b'C') | (letter == b'Q')
-}
-
 fn build_of(
     is_wang: bool,
     limit: u32,

@@ -13,7 +13,6 @@
 //              min_prominence, hashes: query
 //     A        the last answer's words as the C interface has them, each in two halves; then zeros
 mod calls;
-mod contents;
 mod text;
 
 ghost use mathlib.Core.Path.{_≡_};
@@ -96,6 +95,10 @@ fn lend(line: &[u32], st: State) -> State {
     }
 }
 
+fn is_call(letter: u8) -> bool {
+    (letter == b'B') | (letter == b'I') | (letter == b'D') | (letter == b'C') | (letter == b'Q')
+}
+
 // A line on the lent slices.
 fn run_on(
     letter: u8,
@@ -107,7 +110,7 @@ fn run_on(
     answer: &mut [u64; 8],
     st: State,
 ) -> State {
-    if calls::is_call(letter) {
+    if is_call(letter) {
         let is_wang = st.is_wang;
         let good = calls::run(
             letter,
@@ -121,7 +124,7 @@ fn run_on(
         );
         return after(st, 1, good);
     }
-    let good = contents::run(letter, line, refs, postings, stopped, answer);
+    let good = replay_text::run_contents(letter, line, refs, postings, stopped, answer);
     after(st, 0, good)
 }
 

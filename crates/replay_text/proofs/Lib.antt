@@ -1,2 +1,3 @@
 pub mod Digits
 pub mod Holding
+pub mod Said

@@ -1,4 +1,7 @@
 // The lines of the list that the program replay runs on: words as text, and a line's words beside those that are held.
+mod contents;
+
+pub use contents::run_contents;
 ghost use mathlib.Core.Path.{_≡_};
 ghost use mathlib.Core.Bool.{true};
 ghost use Prim.Native.Nat.{_+_, _*_, _%_, _^_, _≤_, _<_};
@@ -6,6 +9,7 @@ ghost use lib.ListN.{length, getD, take};
 ghost use Rattle.lists.specs.Every.{every};
 ghost use Rattle.replay_text.specs.Digits.{digitOf, pairAt, arePair, wordAt, isWord, wordStands, firstWords};
 ghost use Rattle.replay_text.specs.Words.{paddedTo, holds, pairOf, holdsPairs};
+use slices::wide;
 
 // ---- words as text
 
@@ -112,12 +116,6 @@ pub fn is_held(slice: &[u32], words: &[u32]) -> bool
         i += 1;
     }
     same & (words.len() <= slice.len())
-}
-
-fn wide(x: u32) -> u64
-    ensures { λ r. ⌜ (r ≡ x) × (r < 4294967296) ⌝ }
-{
-    x as u64
 }
 
 // The word of 64 bits whose halves are words 2 i and 2 i + 1.

@@ -9,8 +9,7 @@ use lib.Dec.{eqb, leb}
 use lib.Ieee.{binary32, ofBits}
 use Rattle.model.specs.Query.{Query}
 use Rattle.model.specs.Calls.{Call, insert, remove, query}
-use Rattle.wang_judge.specs.Scheme.{configOf, wang}
-use Rattle.wang_query.specs.Arguments.{queryWith}
+use Rattle.wang_judge.specs.Scheme.{configOf, wang, queryWith}
 
 -- "scratch for 512 votes", 6 words each
 abbrev pub scratchWords : ℕ

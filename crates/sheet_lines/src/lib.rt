@@ -20,7 +20,7 @@ use remove::Removal;
 fn place_of(frames: i64) -> u8
     ensures { λ r. ⌜ r ≡ place frames ⌝ }
 {
-    if consolidate::is_natural(frames) {
+    if signed::is_natural(frames) {
         return 73;
     }
     69

@@ -9,7 +9,7 @@ use Rattle.model.specs.Calls.{Answer, built, stored, removed, count, best, noth
 use Rattle.model.specs.Words.{Words}
 use Rattle.query_rank.specs.Answers.{scratchAfter}
 use Rattle.wang_judge.specs.declared.WangMatchConfig.{WangMatchConfig}
-use Rattle.wang_query.specs.Arguments.{queryWith}
+use Rattle.wang_judge.specs.Scheme.{queryWith}
 use Rattle.sheet_lines.specs.Lines.{answerLine}
 use Rattle.sheet_text.specs.Bytes.{fieldsOf}
 use Rattle.sheet_text.specs.Put.{lineMost, Put}

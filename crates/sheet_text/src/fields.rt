@@ -3,20 +3,15 @@ ghost use mathlib.Core.Path.{_≡_};
 ghost use Prim.Native.Nat.{_+_, _-_, _/_, _≤_, _<_};
 ghost use lib.ListN.{length, take, drop};
 ghost use Rattle.sheet_text.specs.Bytes.{bigEndian, fieldsOf};
-
-fn wide(b: u8) -> u64
-    ensures { λ r. ⌜ (r ≡ b) × (r < 256) ⌝ }
-{
-    b as u64
-}
+use slices::wide_byte;
 
 // The word at a place.
 pub fn word_at(s: &[u8], at: usize) -> u32
     requires { ⌜ at + 4 ≤ length (now s) ⌝ }
     ensures { λ r. ⌜ r ≡ bigEndian (take 4 (drop at (now (s .entry)))) ⌝ }
 {
-    let high = wide(s[at]) * 16777216 + wide(s[at + 1]) * 65536;
-    let low = wide(s[at + 2]) * 256 + wide(s[at + 3]);
+    let high = wide_byte(s[at]) * 16777216 + wide_byte(s[at + 1]) * 65536;
+    let low = wide_byte(s[at + 2]) * 256 + wide_byte(s[at + 3]);
     (high + low) as u32
 }
 

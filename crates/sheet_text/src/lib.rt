@@ -91,7 +91,7 @@ fn put_sign(line: &mut [u8], at: usize, x: i64) -> usize
     ensures { λ r. ⌜ Put (now (line .entry)) (now (line .exit)) at r (sign x) ⌝ }
     ensures { λ r. ⌜ r ≤ at + 1 ⌝ }
 {
-    if consolidate::is_natural(x) {
+    if signed::is_natural(x) {
         return at;
     }
     put_byte(line, at, 45)
@@ -102,7 +102,7 @@ pub fn put_signed(line: &mut [u8], at: usize, x: i64) -> usize
     ensures { λ r. ⌜ Put (now (line .entry)) (now (line .exit)) at r (field (signed x)) ⌝ }
     ensures { λ r. ⌜ r ≤ at + 22 ⌝ }
 {
-    let n = consolidate::unsigned_abs(x);
+    let n = signed::unsigned_abs(x);
     let start = put_byte(line, at, 32);
     let digits = put_sign(line, start, x);
     put_digits(line, digits, n)

@@ -28,6 +28,13 @@ pub fn wide(x: u32) -> u64
     x as u64
 }
 
+// A byte as a wider number.
+pub fn wide_byte(b: u8) -> u64
+    ensures { λ r. ⌜ (r ≡ b) × (r < 256) ⌝ }
+{
+    b as u64
+}
+
 // n words of src, from `from` on, go to dst at `to`.
 pub fn copy_words(dst: &mut [u32], to: usize, src: &[u32], from: usize, n: usize)
     requires { ⌜ (to + n ≤ length (now dst)) × (from + n ≤ length (now src)) ⌝ }

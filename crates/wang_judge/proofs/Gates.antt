@@ -8,7 +8,7 @@ use lib.ListN.{length, drop, length-drop}
 use lib.Signed.{nonNeg}
 use lib.Dec.{T}
 use lib.Ieee.{Float, binary32, ofBits}
-use Rattle.maps.proofs.Signed.{abs-neg}
+use Rattle.signed.proofs.Sizes.{abs-neg}
 use Rattle.matching.specs.Scores.{wangProminence}
 use Rattle.bins.specs.Votes.{places, positions}
 use Rattle.consolidate.specs.Box.{boxPeak}

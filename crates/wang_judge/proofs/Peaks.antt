@@ -24,7 +24,7 @@ use Rattle.consolidate.specs.Limits.{Span}
 use Rattle.consolidate.specs.Windows.{withinℕ}
 use Rattle.consolidate.specs.declared.Mode.{Mode}
 use Rattle.consolidate.proofs.Facts.{midpoint, votes-total, votes-under, centre-is}
-use Rattle.consolidate.proofs.Signed.{leZ-ltZ}
+use Rattle.signed.proofs.Order.{leZ-ltZ}
 use Rattle.consolidate.proofs.Spans.{le-shift, within-is}
 use Rattle.wang_judge.specs.Judge.{Vote, Counts, near, votesAt, modeWithin, peakOf, distinct}
 use Rattle.wang_judge.specs.Candidates.{countsIn}

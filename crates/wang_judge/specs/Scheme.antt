@@ -11,7 +11,7 @@ use Rattle.maps.specs.Lists.{countIf}
 use Rattle.matching.specs.declared.MatchResult.{MatchResult}
 use Rattle.model.specs.Fingerprints.{Hash}
 use Rattle.model.specs.Rows.{Row, anchor, largestAnchor}
-use Rattle.model.specs.Query.{Scheme}
+use Rattle.model.specs.Query.{Scheme, Query}
 use Rattle.wang_judge.specs.Judge.{Vote, Counts, judgeBy}
 use Rattle.wang_judge.specs.declared.WangMatchConfig.{WangMatchConfig}
 use Rattle.wang_judge.specs.declared.WangQuery.{WangQuery}
@@ -59,3 +59,7 @@ wang = record {
   vote = λ a i h g. voteOf i h g ∷ [];
   judge = judge;
 }
+
+-- settings, rate, the words of the hashes, and how many words of scratch are lent
+abbrev pub queryWith : WangMatchConfig → Float → List ℕ → ℕ → Query wang
+queryWith cfg rate hs scratch = record { ask = record { cfg = cfg; rate = rate }; words = hs; scratch = scratch }

@@ -20,9 +20,8 @@ use Rattle.query_laws.proofs.Gathering.{RightAll, right-all}
 use Rattle.query_laws.proofs.Sound as sound
 use Rattle.query_laws.proofs.Queries as queries
 use Rattle.wang_judge.specs.declared.WangQuery.{WangQuery}
-use Rattle.wang_judge.specs.Scheme.{Ask, beyond, queryOf, judge, wang}
+use Rattle.wang_judge.specs.Scheme.{Ask, beyond, queryOf, judge, wang, queryWith}
 use Rattle.wang_votes.specs.Gathered.{pairWord}
-use Rattle.wang_query.specs.Arguments.{queryWith}
 use Rattle.wang_query.specs.Candidates.{reading, postingsIn, hashesIn, answerIn, Held, Posted}
 use Rattle.wang_query.proofs.Anchors.{top-high, top-above}
 use Rattle.wang_query.proofs.Pairs.{Low, Small, low-hashes, small-postings, right}

@@ -1,3 +1,2 @@
--- A Wang query as the model has it; its candidates from the words of its votes.
-pub mod Arguments
+-- A Wang query's candidates from the words of its votes.
 pub mod Candidates

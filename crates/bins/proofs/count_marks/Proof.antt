@@ -18,16 +18,16 @@ abbrev μ-loop : tie.MeasureT-loop
 loop-holds : tie.Need-loop-holds Inv-loop μ-loop
 loop-holds c = (omega arith, sym (sum-zero (λ j. getD (c .args .seen .now) j 0)), omega arith)
 
-element-copy-out-wide : tie.Need-element-copy-out-wide Inv-loop μ-loop
-element-copy-out-wide c = search needs
+element-copy-out-wide-byte : tie.Need-element-copy-out-wide-byte Inv-loop μ-loop
+element-copy-out-wide-byte c = search needs
 
-wide-requires : tie.Need-wide-requires Inv-loop μ-loop
-wide-requires c κs = search needs
+wide-byte-requires : tie.Need-wide-byte-requires Inv-loop μ-loop
+wide-byte-requires c κs = search needs
 
 add-n : tie.Need-add-n Inv-loop μ-loop
 add-n c =
     let o = c .before .before .before .before in
-    record { fits = omega (arith, c .wide .ensures, o .pre .1 (c .before .before .before .loop .i) (omega arith)) }
+    record { fits = omega (arith, c .wide-byte .ensures .0, o .pre .1 (c .before .before .before .loop .i) (omega arith)) }
 
 add-i : tie.Need-add-i Inv-loop μ-loop
 add-i c = search needs
@@ -39,7 +39,7 @@ loop-again : tie.Need-loop-again Inv-loop μ-loop
 loop-again c =
     let o = c .before .before .before .before in
     let i = c .before .before .before .loop .i in
-    (omega arith, omega (arith, c .wide .ensures, sum-next (λ j. getD (o .args .seen .now) j 0) i), omega (arith, c .wide .ensures, o .pre .1 i (omega arith)))
+    (omega arith, omega (arith, c .wide-byte .ensures .0, sum-next (λ j. getD (o .args .seen .now) j 0) i), omega (arith, c .wide-byte .ensures .0, o .pre .1 i (omega arith)))
 
 returns : tie.Need-returns Inv-loop μ-loop
 returns c =
@@ -53,8 +53,8 @@ count-marks-spec =
     Inv-loop
     μ-loop
     loop-holds
-    element-copy-out-wide
-    wide-requires
+    element-copy-out-wide-byte
+    wide-byte-requires
     add-n
     add-i
     loop-less

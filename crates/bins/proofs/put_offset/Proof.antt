@@ -6,7 +6,7 @@ use lib.ListN.{set, length-set}
 use mir.Syntax.{w64}
 use mir.Val.{SFits, toZ, ofZ}
 use Rattle.maps.proofs.Words.{word-is, number-is}
-use Rattle.maps.proofs.Signed.{fits-abs, abs-sub}
+use Rattle.signed.proofs.Sizes.{fits-abs, abs-sub}
 use borrow.Author.Needs.{needs}
 use native.Mathlib.Omega.{arith}
 use Rattle.bins.proofs.put_offset.Statement.{statement}

@@ -7,7 +7,8 @@ use lib.Ieee.{Float, binary32, ofBits, toBits, le}
 use Rattle.floats.specs.Rounding.{narrow}
 use Rattle.floats.proofs.Numbers.{yes}
 use Rattle.matching.specs.Scales.{half, two}
-use Rattle.capi.specs.Codes.{double, nanWord, narrowCode}
+use Rattle.floats.specs.Words.{nanWord}
+use Rattle.capi.specs.Codes.{double, narrowCode}
 use Rattle.capi.proofs.floats_f64_to_f32.Statement.{statement}
 use Rattle.capi.proofs.floats_f64_to_f32.Tie as tie
 

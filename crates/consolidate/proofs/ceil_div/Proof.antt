@@ -7,8 +7,9 @@ use lib.IntN.{pos, natAbs}
 use lib.Signed.{quotZ}
 use mir.Syntax.{w64}
 use mir.ValLaws.{toZ-ofZ, toZ-pos}
-use Rattle.maps.proofs.Signed.{fits-abs}
-use Rattle.consolidate.proofs.Signed.{above-nonNeg, ceil-above, ceil-else, quot-le}
+use Rattle.signed.proofs.Sizes.{fits-abs}
+use Rattle.signed.proofs.Order.{above-nonNeg}
+use Rattle.consolidate.proofs.Quotients.{ceil-above, ceil-else, quot-le}
 use Rattle.consolidate.proofs.ceil_div.Statement.{statement}
 use Rattle.consolidate.proofs.ceil_div.Tie as tie
 

@@ -4,7 +4,7 @@ use lib.IntN.{pos, _+ℤ_}
 use mir.Syntax.{w64}
 use mir.Val.{SFits}
 use mir.ValLaws.{toZ-ofZ, toZ-pos}
-use Rattle.maps.proofs.Signed.{fits-abs, abs-add}
+use Rattle.signed.proofs.Sizes.{fits-abs, abs-add}
 use Rattle.consolidate.proofs.centre_at.Statement.{statement}
 use Rattle.consolidate.proofs.centre_at.Tie as tie
 

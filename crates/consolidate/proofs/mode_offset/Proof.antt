@@ -9,7 +9,7 @@ use mir.ValLaws.{toZ-ofZ}
 use Rattle.maps.specs.Bins.{offset, votes}
 use Rattle.maps.specs.Sums.{when}
 use Rattle.consolidate.specs.Box.{between}
-use Rattle.maps.proofs.Signed.{fits-abs}
+use Rattle.signed.proofs.Sizes.{fits-abs}
 use Rattle.consolidate.proofs.Tallies.{Tallied, tally-none, tally-more, tally-gap, tally-small, mode-none, mode-some}
 use Rattle.consolidate.proofs.Peaks.{off-before, off-after, on-between}
 use Rattle.consolidate.proofs.mode_offset.Statement.{statement}

@@ -6,8 +6,7 @@ use lib.IntN.{pos, natAbs, _*ℤ_, _-ℤ_}
 use mir.Syntax.{w64}
 use mir.Val.{SFits, toZ, ofZ}
 use mir.ValLaws.{toZ-ofZ, toZ-pos}
-use Rattle.maps.proofs.Signed.{fits-abs, abs-sub}
-use Rattle.consolidate.proofs.Signed.{abs-twice}
+use Rattle.signed.proofs.Sizes.{fits-abs, abs-sub, abs-twice}
 use Rattle.consolidate.proofs.nearest_mean.Statement.{statement}
 use Rattle.consolidate.proofs.nearest_mean.Tie as tie
 

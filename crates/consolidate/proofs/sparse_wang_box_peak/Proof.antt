@@ -6,7 +6,7 @@ use mir.Syntax.{w64}
 use mir.Val.{SFits, toZ, ofZ}
 use mir.ValLaws.{toZ-ofZ}
 use Rattle.consolidate.specs.Box.{boxPeak}
-use Rattle.maps.proofs.Signed.{fits-abs}
+use Rattle.signed.proofs.Sizes.{fits-abs}
 use Rattle.consolidate.proofs.Spans.{span-up, span-wide, span-placed, window-is}
 use Rattle.consolidate.proofs.sparse_wang_box_peak.Statement.{statement}
 use Rattle.consolidate.proofs.sparse_wang_box_peak.Tie as tie

@@ -3,7 +3,7 @@ use borrow.Author.Tests.{lt-ltb, le-ltb, eq-eqb, ne-eqb}
 use lib.IntN.{_+ℤ_}
 use mir.Syntax.{w64}
 use mir.ValLaws.{toZ-ofZ}
-use Rattle.maps.proofs.Signed.{fits-abs, abs-add}
+use Rattle.signed.proofs.Sizes.{fits-abs, abs-add}
 use borrow.Author.Needs.{needs}
 use Rattle.consolidate.proofs.tallied.Statement.{statement}
 use Rattle.consolidate.proofs.tallied.Tie as tie

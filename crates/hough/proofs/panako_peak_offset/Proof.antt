@@ -6,7 +6,7 @@ use lib.IntN.{natAbs}
 use mir.Syntax.{w64}
 use mir.Val.{toZ, ofZ}
 use mir.ValLaws.{toZ-ofZ}
-use Rattle.maps.proofs.Signed.{fits-abs}
+use Rattle.signed.proofs.Sizes.{fits-abs}
 use Rattle.hough.proofs.Frames.{frames-small, frames-offset}
 use Rattle.hough.proofs.panako_peak_offset.Statement.{statement}
 use Rattle.hough.proofs.panako_peak_offset.Tie as tie

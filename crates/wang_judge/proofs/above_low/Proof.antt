@@ -5,7 +5,7 @@ use lib.IntN.{pos, _+ℤ_}
 use mir.Syntax.{w64}
 use mir.Val.{SFits}
 use Rattle.maps.proofs.Words.{word, word-is, number-is}
-use Rattle.maps.proofs.Signed.{fits-abs}
+use Rattle.signed.proofs.Sizes.{fits-abs}
 use borrow.Author.Needs.{needs}
 use Rattle.wang_judge.proofs.above_low.Statement.{statement}
 use Rattle.wang_judge.proofs.above_low.Tie as tie

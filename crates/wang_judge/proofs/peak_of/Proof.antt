@@ -9,7 +9,7 @@ use lib.Seq.{take-all}
 use mir.Syntax.{w64}
 use mir.Val.{SFits, toZ}
 use Rattle.maps.proofs.Words.{word, word-is, number-is}
-use Rattle.maps.proofs.Signed.{fits-abs, abs-sub}
+use Rattle.signed.proofs.Sizes.{fits-abs, abs-sub}
 use borrow.Author.Needs.{needs}
 use Rattle.wang_judge.proofs.peak_of.Statement.{statement}
 use Rattle.wang_judge.proofs.peak_of.Tie as tie

@@ -5,8 +5,7 @@ use lib.Ieee.{Float}
 use Rattle.soundness.specs.Scan.{lent}
 use Rattle.query_rank.specs.Answers.{findingAnswer}
 use Rattle.panako_vote.specs.declared.PanakoMatchConfig.{PanakoMatchConfig}
-use Rattle.panako_judge.specs.Scheme.{panako}
-use Rattle.panako_query.specs.Arguments.{queryWith}
+use Rattle.panako_judge.specs.Scheme.{panako, queryWith}
 use Rattle.capi.proofs.Answered.{query-answered}
 use borrow.Author.Needs.{needs}
 use Rattle.capi.proofs.index.panako_index_query.Statement.{statement}

@@ -5,8 +5,7 @@ use lib.Ieee.{Float}
 use Rattle.soundness.specs.Scan.{lent}
 use Rattle.query_rank.specs.Answers.{findingAnswer}
 use Rattle.wang_judge.specs.declared.WangMatchConfig.{WangMatchConfig}
-use Rattle.wang_judge.specs.Scheme.{wang}
-use Rattle.wang_query.specs.Arguments.{queryWith}
+use Rattle.wang_judge.specs.Scheme.{wang, queryWith}
 use Rattle.capi.proofs.Answered.{query-answered}
 use borrow.Author.Needs.{needs}
 use Rattle.capi.proofs.index.wang_index_query.Statement.{statement}

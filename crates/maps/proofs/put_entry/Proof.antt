@@ -1,11 +1,11 @@
--- `insert_merge::put_entry` meets its contract. Assumes nothing.
+-- `maps::put_entry` meets its contract. Assumes nothing.
 use mathlib.Core.Path.{_∙_}
 use native.Mathlib.Omega.{arith}
 use lib.ListN.{length-set}
-use Rattle.insert_merge.proofs.Pasted.{entry-put}
+use Rattle.maps.proofs.Puts.{entry-put}
 use borrow.Author.Needs.{needs}
-use Rattle.insert_merge.proofs.put_entry.Statement.{statement}
-use Rattle.insert_merge.proofs.put_entry.Tie as tie
+use Rattle.maps.proofs.put_entry.Statement.{statement}
+use Rattle.maps.proofs.put_entry.Tie as tie
 
 mul-from : tie.Need-mul-from
 mul-from c = search needs
@@ -13,20 +13,20 @@ mul-from c = search needs
 at-requires : tie.Need-at-requires
 at-requires c κs = search needs
 
-mul-news : tie.Need-mul-news
-mul-news c = search needs
+mul-posts : tie.Need-mul-posts
+mul-posts c = search needs
 
-slice-write-news : tie.Need-slice-write-news
-slice-write-news c = search needs
+slice-write-posts : tie.Need-slice-write-posts
+slice-write-posts c = search needs
 
-add-news : tie.Need-add-news
-add-news c = search needs
+add-posts : tie.Need-add-posts
+add-posts c = search needs
 
-mul-news-2 : tie.Need-mul-news-2
-mul-news-2 c = search needs
+mul-posts-2 : tie.Need-mul-posts-2
+mul-posts-2 c = search needs
 
-slice-write-news-2 : tie.Need-slice-write-news-2
-slice-write-news-2 c = simp length-set (omega arith)
+slice-write-posts-2 : tie.Need-slice-write-posts-2
+slice-write-posts-2 c = simp length-set (omega arith)
 
 add-copy-words : tie.Need-add-copy-words
 add-copy-words c = search needs
@@ -47,7 +47,7 @@ returns : tie.Need-returns
 returns c =
     let s = c .before .before .before .before .before .before .before in
     c .before .before .copy-words .ensures ∙ rw (c .before .before .before .before .at .ensures)
-    (entry-put (s .args .news .now) (s .args .to) (s .args .hashes .now) (s .args .v) (s .args .j) (s .args .id) (s .pre .0) (s .pre .1) (s .pre .2))
+    (entry-put (s .args .posts .now) (s .args .to) (s .args .hashes .now) (s .args .v) (s .args .j) (s .args .id) (s .pre .0) (s .pre .1) (s .pre .2))
 
 pub put-entry-spec : {M : Type 1} → statement M
 put-entry-spec =
@@ -55,11 +55,11 @@ put-entry-spec =
     (tie.spec
     mul-from
     at-requires
-    mul-news
-    slice-write-news
-    add-news
-    mul-news-2
-    slice-write-news-2
+    mul-posts
+    slice-write-posts
+    add-posts
+    mul-posts-2
+    slice-write-posts-2
     add-copy-words
     add-copy-words-2
     sub-copy-words

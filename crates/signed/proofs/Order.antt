@@ -1,29 +1,13 @@
--- Laws of signed numbers: sums fit, and a quotient toward zero is the ceiling where the number is not above zero. Assumes nothing.
-use Prim.Native.Nat.{ℕ, zero, suc, _+_, _-_, _*_, _/_, _≤_, _<_}
+-- Laws of the order and the sign of signed numbers, and the magnitude of one below zero from one more. Assumes nothing.
+use Prim.Native.Nat.{ℕ, zero, suc, _+_, _-_}
 use mathlib.Core.Path.{_≡_, refl, sym, ap, _∙_, subst}
 use mathlib.Core.Bool.{Bool, true, false, cond}
 use native.Mathlib.Omega.{arith}
-use native.Mathlib.Nat.{div-le-self, div-eq-of-lt}
-use native.Mathlib.Decide.{decLt}
-use lib.IntN.{ℤ, pos, negsuc, natAbs, subℕ, _+ℤ_, _-ℤ_, _*ℤ_}
-use lib.Signed.{nonNeg, mag, ltZ, leZ, quotZ}
+use lib.IntN.{ℤ, pos, negsuc, natAbs, _+ℤ_, _-ℤ_}
+use lib.Signed.{nonNeg, mag, ltZ, leZ}
 use lib.Dec.{T, leb→le, le→leb}
-use borrow.Author.Tests.{ltb-false, leb-false, lt-ltb, le-ltb, le-leb}
-use Rattle.maps.proofs.Signed.{abs-neg}
-use Rattle.consolidate.specs.Modes.{ceil}
-
--- ---- sizes
-
-pub sub-dist : (a b : ℕ) → natAbs (subℕ a b) ≡ (a - b) + (b - a)
-sub-dist a b = go (decLt a b)
-  where
-    go : Dec (a < b) → natAbs (subℕ a b) ≡ (a - b) + (b - a)
-    go (yes p) = rw (lt-ltb a b p) (omega arith)
-    go (no q) = rw (le-ltb a b (omega arith)) (omega arith)
-
-pub abs-twice : (z : ℤ) → natAbs (pos 2 *ℤ z) ≡ 2 * natAbs z
-abs-twice (pos n) = refl
-abs-twice (negsuc n) = abs-neg (2 * suc n)
+use borrow.Author.Tests.{leb-false, lt-ltb, le-ltb, le-leb}
+use Rattle.signed.proofs.Sizes.{sub-dist}
 
 -- ---- the order
 
@@ -41,28 +25,22 @@ leZ-ltZ (pos a) (negsuc b) e = let z : _≡_ {A = ℕ} 0 1 = cc in absurd (omega
 leZ-ltZ (negsuc a) (pos b) e = tt
 leZ-ltZ (negsuc a) (negsuc b) e = rw (lt-ltb b a (leb-false a b e)) tt
 
--- ---- the quotient
+-- ---- the sign
 
-never : {X : Type 0} → false ≡ true → X
+pub never : {X : Type 0} → false ≡ true → X
 never e = absurd (subst (λ (b : Bool). cond b ⊥ (Unit {0})) e tt)
 
 pub above-nonNeg : (z : ℤ) → ltZ (pos 0) z ≡ true → T (nonNeg z)
 above-nonNeg (pos n) e = tt
 above-nonNeg (negsuc n) e = never e
 
-pub ceil-above : (z : ℤ) (den : ℕ) → ltZ (pos 0) z ≡ true → pos ((natAbs z + (den - 1)) / den) ≡ ceil z den
-ceil-above (pos n) den e = refl
-ceil-above (negsuc n) den e = never e
+pub else-nonNeg : (x : ℤ) → ltZ x (pos 0) ≡ false → T (nonNeg x)
+else-nonNeg (pos n) e = tt
+else-nonNeg (negsuc n) e = never (sym e)
 
-pub ceil-else : (z : ℤ) (den : ℕ) → 0 < den → ltZ (pos 0) z ≡ false → quotZ z (pos den) ≡ ceil z den
-ceil-else (negsuc n) den h e = refl
-ceil-else (pos n) den h e =
-    let z : n ≡ 0 = omega (arith, ltb-false 0 n e) in
-    ap pos (div-eq-of-lt {n = n} {m = den} (omega arith) ∙ sym (div-eq-of-lt {n = n + (den - 1)} {m = den} (omega arith)))
-
-pub quot-le : (z : ℤ) (den : ℕ) → natAbs (quotZ z (pos den)) ≤ natAbs z
-quot-le (pos n) den = div-le-self n den
-quot-le (negsuc n) den = rw abs-neg (div-le-self (suc n) den)
+pub leZ-nonNeg : (x : ℤ) → leZ (pos 0) x ≡ nonNeg x
+leZ-nonNeg (pos n) = le-leb 0 n (omega arith)
+leZ-nonNeg (negsuc n) = refl
 
 -- ---- the magnitude
 
@@ -84,11 +62,3 @@ less-one (negsuc (suc n)) e = rw (lt-ltb 1 (suc (suc n)) (omega arith)) (ap pos 
 pub mag-one : (x : ℤ) → ltZ x (pos 0) ≡ true → mag x + 1 ≡ natAbs x
 mag-one (pos n) e = never (sym (le-ltb n 0 (omega arith)) ∙ e)
 mag-one (negsuc n) e = omega arith
-
-pub else-nonNeg : (x : ℤ) → ltZ x (pos 0) ≡ false → T (nonNeg x)
-else-nonNeg (pos n) e = tt
-else-nonNeg (negsuc n) e = never (sym e)
-
-pub leZ-nonNeg : (x : ℤ) → leZ (pos 0) x ≡ nonNeg x
-leZ-nonNeg (pos n) = le-leb 0 n (omega arith)
-leZ-nonNeg (negsuc n) = refl

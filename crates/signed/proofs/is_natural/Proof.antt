@@ -1,8 +1,8 @@
 use mir.Syntax.{w64}
 use mir.ValLaws.{toZ-ofZ}
-use Rattle.consolidate.proofs.Signed.{leZ-nonNeg}
-use Rattle.consolidate.proofs.is_natural.Statement.{statement}
-use Rattle.consolidate.proofs.is_natural.Tie as tie
+use Rattle.signed.proofs.Order.{leZ-nonNeg}
+use Rattle.signed.proofs.is_natural.Statement.{statement}
+use Rattle.signed.proofs.is_natural.Tie as tie
 
 returns : tie.Need-returns
 returns c = rw (toZ-ofZ w64 (c .args .x) (c .fits .x)) (leZ-nonNeg (c .args .x))

@@ -6,10 +6,10 @@ use lib.Signed.{ltZ, mag, natAbs-le}
 use mir.Syntax.{w64}
 use mir.Val.{SFits, toZ, ofZ}
 use mir.ValLaws.{toZ-ofZ, toZ-pos}
-use Rattle.maps.proofs.Signed.{fits-abs}
-use Rattle.consolidate.proofs.Signed.{up-one, less-one, mag-one, else-nonNeg}
-use Rattle.consolidate.proofs.unsigned_abs.Statement.{statement}
-use Rattle.consolidate.proofs.unsigned_abs.Tie as tie
+use Rattle.signed.proofs.Sizes.{fits-abs}
+use Rattle.signed.proofs.Order.{up-one, less-one, mag-one, else-nonNeg}
+use Rattle.signed.proofs.unsigned_abs.Statement.{statement}
+use Rattle.signed.proofs.unsigned_abs.Tie as tie
 
 back : (o : tie.Start) → toZ w64 (ofZ w64 (o .args .x)) ≡ o .args .x
 back o = toZ-ofZ w64 (o .args .x) (o .fits .x)
