@@ -2,6 +2,7 @@
 //! and depots of several sizes. Both sides hold the same all along.
 
 use crate::account::{built, counted, found, removed, stored};
+use crate::builds::Build;
 use crate::calls::RATE;
 use crate::capi::Answer;
 use crate::harness::Rng;
@@ -151,7 +152,6 @@ fn calls(only: Option<&str>) {
     println!("| index | lists | `remove` | `insert` | `build` |");
     println!("|---|---|---|---|---|");
     for (index, name, times) in &rows {
-        let micros = |ns: f64| format!("{:.*}", if ns < 1e5 { 2 } else { 0 }, ns / 1e3);
         let plain = |[ours, rust]: [f64; 2]| {
             format!("{} / {} = {:.2}", micros(ours), micros(rust), ours / rust)
         };
@@ -303,9 +303,61 @@ fn measure<I: Index>(card: Card) -> Times {
 
 // ---- queries
 
-fn queries(only: Option<&str>) {
+/// A row of the queries' table: what is asked of which card, and the scratch.
+#[derive(Clone, Copy)]
+struct Row {
+    card: Card,
+    hashes: usize,
+    room: Room,
+}
+
+/// What is done with each row of the table.
+trait Measuring {
+    /// Measures so many turns on these sides, each with what `turn` asks.
+    fn row<I: Index>(
+        &mut self,
+        title: String,
+        turns: usize,
+        sides: Sides<I>,
+        turn: impl FnMut(&Sides<I>) -> Vec<Asked<I>>,
+    );
+
+    /// Parts of the card's lists as they are heard, each turn others.
+    fn heard<I: Index>(&mut self, name: &str, row: Row) {
+        let Row { card, hashes, room } = row;
+        let rng = &mut Rng(1);
+        let lists: Vec<Vec<u32>> = (0..card.lists).map(|_| list::<I>(rng, card)).collect();
+        let sides = Sides::<I>::of(&lists, card.sizes);
+        let title = query_title(name, &card.title(), hashes, room);
+        self.row(title, QUERY_TURNS, sides, |sides| {
+            let ask = |_| {
+                let id = rng.below(card.lists as u64) as usize;
+                sides.asked(heard::<I>(rng, card, &lists[id], hashes), room)
+            };
+            (0..card.batch).map(ask).collect()
+        });
+    }
+
+    /// One candidate all of whose votes have a bin of their own: a hundred
+    /// postings under one key, each far from the next, and that key `hashes`
+    /// times in the query.
+    fn spread<I: Index>(&mut self, name: &str, hashes: usize) {
+        let list = under_one_key::<I>(LIMIT as usize, 1 << 12);
+        let sides = Sides::<I>::of(&[list], SCHOOL.sizes);
+        let title = query_title(name, "1 × 100, one key", hashes, Room::Met);
+        self.row(title, SPREAD_TURNS, sides, |sides| {
+            vec![sides.asked(under_one_key::<I>(hashes, 1), Room::Met)]
+        });
+    }
+}
+
+/// The words of a row that say what is asked.
+fn query_title(name: &str, lists: &str, hashes: usize, room: Room) -> String {
+    format!("`{name}::query` | {lists} | {hashes} | {}", room.name())
+}
+
+fn measure_all(only: Option<&str>, measuring: &mut impl Measuring) {
     let asked = |name: &str| only.is_none_or(|only| name.contains(only));
-    let mut rows = Vec::new();
     for (card, hashes, room) in [
         (SCHOOL, 30, Room::Met),
         (SCHOOL, 30, Room::Votes(256)),
@@ -317,39 +369,30 @@ fn queries(only: Option<&str>) {
         (LARGE[1], 300, Room::Met),
         (LARGE[1], 2048, Room::Met),
     ] {
+        let row = Row { card, hashes, room };
         if asked("Wang query") {
-            rows.extend(measure_queries::<Wang>("WangIndex", card, hashes, room));
+            measuring.heard::<Wang>("WangIndex", row);
         }
         if asked("Panako query") {
-            rows.extend(measure_queries::<Panako>("PanakoIndex", card, hashes, room));
+            measuring.heard::<Panako>("PanakoIndex", row);
         }
     }
     if asked("Panako query") {
-        rows.extend(speeds());
+        speeds().for_each(|row| measuring.heard::<Panako>("PanakoIndex", row));
     }
     for hashes in [500, 1000, 2000] {
         if asked("Wang query") {
-            rows.extend(measure_spread::<Wang>("WangIndex", hashes));
+            measuring.spread::<Wang>("WangIndex", hashes);
         }
         if asked("Panako query") {
-            rows.extend(measure_spread::<Panako>("PanakoIndex", hashes));
+            measuring.spread::<Panako>("PanakoIndex", hashes);
         }
     }
-    if rows.is_empty() {
-        return;
-    }
-    println!();
-    println!(
-        "| query | lists | hashes | postings met | scratch for | ours, µs | scan, µs | rest, µs \
-         | Rust, µs | rest / Rust | ours / Rust |"
-    );
-    println!("|---|---|---|---|---|---|---|---|---|---|---|");
-    rows.iter().for_each(|row| println!("{row}"));
 }
 
 /// Panako's queries at other speeds. Spans of 20 frames are heard as one length
 /// at some, and as two at the others.
-fn speeds() -> Vec<String> {
+fn speeds() -> impl Iterator<Item = Row> {
     const VARIED: [u32; 2] = [5, 36];
     let school = [
         (ALIKE, 90),
@@ -364,20 +407,21 @@ fn speeds() -> Vec<String> {
         (VARIED, 110),
     ];
     let clinic = [(ALIKE, 97), (ALIKE, 103), (ALIKE, 110), (VARIED, 103)];
-    let row = |card, hashes, room, (spans, percent)| {
-        let card = Card {
+    let depot = [(ALIKE, 103), (VARIED, 103)];
+    let row = |card, hashes, room, (spans, percent)| Row {
+        card: Card {
             spans,
             percent,
             ..card
-        };
-        measure_queries::<Panako>("PanakoIndex", card, hashes, room)
+        },
+        hashes,
+        room,
     };
-    let depot = [(ALIKE, 103), (VARIED, 103)];
     let small = school.map(|speed| row(SCHOOL, 30, Room::Votes(256), speed));
     let longer = clinic.map(|speed| row(CLINIC, 300, Room::Met, speed));
     let large = LARGE.map(|card| depot.map(|speed| row(card, 300, Room::Met, speed)));
     let rows = small.into_iter().chain(longer);
-    rows.chain(large.into_iter().flatten()).flatten().collect()
+    rows.chain(large.into_iter().flatten())
 }
 
 /// A part of a list as it is heard: from its own begin, a hash in four lost
@@ -402,6 +446,10 @@ fn heard<I: Index>(rng: &mut Rng, card: Card, list: &[u32], hashes: usize) -> Ve
 fn median(mut times: Vec<f64>) -> f64 {
     times.sort_unstable_by(f64::total_cmp);
     times[times.len() / 2]
+}
+
+fn micros(ns: f64) -> String {
+    format!("{:.*}", if ns < 1e5 { 2 } else { 0 }, ns / 1e3)
 }
 
 /// How many votes the lent scratch has words for.
@@ -430,22 +478,14 @@ impl Room {
     }
 }
 
-/// What is asked of both sides: the words of the hashes, the same as the
-/// reference's fingerprint, and the scratch in words.
+/// What is asked of all sides: the words of the hashes, the same as the
+/// reference's fingerprint, the postings that they meet, and the scratch in
+/// words.
 struct Asked<I: Index> {
     hashes: Vec<u32>,
     fingerprint: I::Fingerprint,
+    met: usize,
     scratch: usize,
-}
-
-impl<I: Index> Asked<I> {
-    fn new(hashes: Vec<u32>, votes: usize) -> Self {
-        Self {
-            fingerprint: I::fingerprint(&hashes, RATE),
-            hashes,
-            scratch: I::VOTE * votes,
-        }
-    }
 }
 
 /// Both sides with the same content.
@@ -468,105 +508,20 @@ impl<I: Index> Sides<I> {
         }
     }
 
-    /// Postings that a query's hashes meet.
-    fn met(&self, hashes: &[u32]) -> usize {
+    fn asked(&self, hashes: Vec<u32>, room: Room) -> Asked<I> {
         let map = &self.content.map;
         let under = |hash: &[u32]| {
             let place = map.binary_search_by_key(&hash[0], |(key, _)| *key);
             place.map_or(0, |place| map[place].1.len())
         };
-        hashes.chunks_exact(I::HASH).map(under).sum()
-    }
-
-    /// Medians of `turns` turns, ns a query: ours, the scan, ours without
-    /// the scan, the Rust's.
-    fn measure(&self, turns: usize, mut ask: impl FnMut() -> Vec<Asked<I>>) -> Option<[f64; 4]> {
-        let query = I::ENTRIES.query?;
-        let live_count = I::ENTRIES.live_count;
-        let config = I::Config::default();
-        let settings = I::settings(&config);
-        let mut scratch = Vec::new();
-        let mut times: [Vec<f64>; 4] = Default::default();
-        for _ in 0..turns {
-            let asked = ask();
-            let words = asked.iter().map(|asked| asked.scratch).max();
-            scratch.resize(words.expect("there are queries"), 0);
-            let mut took = [f64::INFINITY; 4];
-            let scan = |least: &mut f64| {
-                timed(least, asked.len(), || {
-                    asked.iter().fold(counted(0), |_, _| {
-                        live_count(black_box(self.store.slices()))
-                    })
-                })
-            };
-            scan(&mut took[0]);
-            let ours: Vec<Answer> = timed(&mut took[1], asked.len(), || {
-                let ask = |asked: &Asked<I>| {
-                    let scratch = &mut scratch[..asked.scratch];
-                    query(self.store.slices(), scratch, &asked.hashes, RATE, &settings)
-                };
-                asked.iter().map(ask).collect()
-            });
-            scan(&mut took[2]);
-            let rust: Vec<_> = timed(&mut took[3], asked.len(), || {
-                let ask = |asked: &Asked<I>| self.index.query(&asked.fingerprint, &config);
-                asked.iter().map(ask).collect()
-            });
-            assert!(
-                ours.into_iter().eq(rust.into_iter().map(found)),
-                "both sides answer the same"
-            );
-            let [before, ours, after, rust] = took;
-            let scan = (before + after) / 2.0;
-            for (times, took) in times.iter_mut().zip([ours, scan, ours - scan, rust]) {
-                times.push(took);
-            }
+        let met = hashes.chunks_exact(I::HASH).map(under).sum();
+        Asked {
+            fingerprint: I::fingerprint(&hashes, RATE),
+            hashes,
+            met,
+            scratch: I::VOTE * room.votes(met),
         }
-        Some(times.map(median))
     }
-}
-
-fn query_row(
-    name: &str,
-    lists: &str,
-    hashes: usize,
-    met: f64,
-    room: Room,
-    times: [f64; 4],
-) -> String {
-    let [ours, scan, rest, rust] = times;
-    let micros = |ns: f64| format!("{:.*}", if ns < 1e5 { 2 } else { 0 }, ns / 1e3);
-    format!(
-        "| `{name}::query` | {lists} | {hashes} | {met:.0} | {} | {} | {} | {} | {} | {:.2} | {:.2} |",
-        room.name(),
-        micros(ours),
-        micros(scan),
-        micros(rest),
-        micros(rust),
-        rest / rust,
-        ours / rust
-    )
-}
-
-/// A row of the table, if the library has this query: both sides in turn on
-/// the same content, each turn with other queries.
-fn measure_queries<I: Index>(name: &str, card: Card, hashes: usize, room: Room) -> Option<String> {
-    let rng = &mut Rng(1);
-    let lists: Vec<Vec<u32>> = (0..card.lists).map(|_| list::<I>(rng, card)).collect();
-    let sides = Sides::<I>::of(&lists, card.sizes);
-    let mut met = Vec::new();
-    let times = sides.measure(QUERY_TURNS, || {
-        let mut ask = |_| {
-            let id = rng.below(card.lists as u64) as usize;
-            let hashes = heard::<I>(rng, card, &lists[id], hashes);
-            let postings = sides.met(&hashes);
-            met.push(postings as f64);
-            Asked::new(hashes, room.votes(postings))
-        };
-        (0..card.batch).map(&mut ask).collect()
-    })?;
-    let met = met.iter().sum::<f64>() / met.len() as f64;
-    Some(query_row(name, &card.title(), hashes, met, room, times))
 }
 
 /// Hashes under one key, `apart` frames apart.
@@ -580,25 +535,187 @@ fn under_one_key<I: Index>(hashes: usize, apart: u32) -> Vec<u32> {
     (0..hashes as u32).flat_map(hash).collect()
 }
 
-/// A row for one candidate all of whose votes have a bin of their own: a
-/// hundred postings under one key, each far from the next, and that key
-/// `hashes` times in the query.
-fn measure_spread<I: Index>(name: &str, hashes: usize) -> Option<String> {
-    let postings = LIMIT as usize;
-    let sides = Sides::<I>::of(&[under_one_key::<I>(postings, 1 << 12)], SCHOOL.sizes);
-    let votes = postings * hashes;
-    let times = sides.measure(SPREAD_TURNS, || {
-        vec![Asked::new(
-            under_one_key::<I>(hashes, 1),
-            Room::Met.votes(votes),
-        )]
-    })?;
-    Some(query_row(
-        name,
-        "1 × 100, one key",
-        hashes,
-        votes as f64,
-        Room::Met,
-        times,
-    ))
+// ---- queries beside the reference's
+
+fn queries(only: Option<&str>) {
+    let mut table = BesideRust { rows: Vec::new() };
+    measure_all(only, &mut table);
+    if table.rows.is_empty() {
+        return;
+    }
+    println!();
+    println!(
+        "| query | lists | hashes | scratch for | postings met | ours, µs | scan, µs | rest, µs \
+         | Rust, µs | rest / Rust | ours / Rust |"
+    );
+    println!("|---|---|---|---|---|---|---|---|---|---|---|");
+    table.rows.iter().for_each(|row| println!("{row}"));
+}
+
+struct BesideRust {
+    rows: Vec<String>,
+}
+
+impl Measuring for BesideRust {
+    /// Medians of `turns` turns, a query: ours, the scan, ours without the
+    /// scan, the Rust's. No row where the library has no such query.
+    fn row<I: Index>(
+        &mut self,
+        title: String,
+        turns: usize,
+        sides: Sides<I>,
+        mut turn: impl FnMut(&Sides<I>) -> Vec<Asked<I>>,
+    ) {
+        let Some(query) = I::ENTRIES.query else {
+            return;
+        };
+        let live_count = I::ENTRIES.live_count;
+        let config = I::Config::default();
+        let settings = I::settings(&config);
+        let mut scratch = Vec::new();
+        let mut met = Vec::new();
+        let mut times: [Vec<f64>; 4] = Default::default();
+        for _ in 0..turns {
+            let asked = turn(&sides);
+            met.extend(asked.iter().map(|asked| asked.met as f64));
+            let words = asked.iter().map(|asked| asked.scratch).max();
+            scratch.resize(words.expect("there are queries"), 0);
+            let mut took = [f64::INFINITY; 4];
+            let scan = |least: &mut f64| {
+                timed(least, asked.len(), || {
+                    asked.iter().fold(counted(0), |_, _| {
+                        live_count(black_box(sides.store.slices()))
+                    })
+                })
+            };
+            scan(&mut took[0]);
+            let ours: Vec<Answer> = timed(&mut took[1], asked.len(), || {
+                let ask = |asked: &Asked<I>| {
+                    let scratch = &mut scratch[..asked.scratch];
+                    query(
+                        sides.store.slices(),
+                        scratch,
+                        &asked.hashes,
+                        RATE,
+                        &settings,
+                    )
+                };
+                asked.iter().map(ask).collect()
+            });
+            scan(&mut took[2]);
+            let rust: Vec<_> = timed(&mut took[3], asked.len(), || {
+                let ask = |asked: &Asked<I>| sides.index.query(&asked.fingerprint, &config);
+                asked.iter().map(ask).collect()
+            });
+            assert!(
+                ours.into_iter().eq(rust.into_iter().map(found)),
+                "both sides answer the same"
+            );
+            let [before, ours, after, rust] = took;
+            let scan = (before + after) / 2.0;
+            for (times, took) in times.iter_mut().zip([ours, scan, ours - scan, rust]) {
+                times.push(took);
+            }
+        }
+        let met = met.iter().sum::<f64>() / met.len() as f64;
+        let [ours, scan, rest, rust] = times.map(median);
+        self.rows.push(format!(
+            "| {title} | {met:.0} | {} | {} | {} | {} | {:.2} | {:.2} |",
+            micros(ours),
+            micros(scan),
+            micros(rest),
+            micros(rust),
+            rest / rust,
+            ours / rust
+        ));
+    }
+}
+
+// ---- queries of several builds
+
+/// Measures the queries of builds of the library in turn, in one process.
+pub fn builds(files: &[String], only: Option<&str>) -> Result<(), String> {
+    let loaded: Result<Vec<Build>, String> = files.iter().map(|file| Build::load(file)).collect();
+    let builds = loaded?;
+    let mut table = BesideBuilds {
+        builds: &builds,
+        rows: Vec::new(),
+    };
+    measure_all(only, &mut table);
+    if table.rows.is_empty() {
+        return Err("no query has that name".to_string());
+    }
+    println!("| query | lists | hashes | scratch for | build | query, µs | scan, µs | rest, µs |");
+    println!("|---|---|---|---|---|---|---|---|");
+    table.rows.iter().for_each(|row| println!("{row}"));
+    Ok(())
+}
+
+struct BesideBuilds<'a> {
+    builds: &'a [Build],
+    rows: Vec<String>,
+}
+
+impl Measuring for BesideBuilds<'_> {
+    /// Medians of `turns` turns, a query: all of it, the scan, the rest; of
+    /// the builds after the first, their ratios to the first's. A turn asks
+    /// each build once, since a build that is asked the same again has its
+    /// branches foreseen, and begins with another each time.
+    fn row<I: Index>(
+        &mut self,
+        title: String,
+        turns: usize,
+        sides: Sides<I>,
+        mut turn: impl FnMut(&Sides<I>) -> Vec<Asked<I>>,
+    ) {
+        let settings = I::settings(&I::Config::default());
+        let count = self.builds.len();
+        let mut scratch = Vec::new();
+        let mut times = vec![<[Vec<f64>; 3]>::default(); count];
+        for t in 0..turns {
+            let asked = turn(&sides);
+            let words = asked.iter().map(|asked| asked.scratch).max();
+            scratch.resize(words.expect("there are queries"), 0);
+            let mut took = vec![[f64::INFINITY; 2]; count];
+            let mut answers: Vec<Vec<Answer>> = Vec::new();
+            for b in (0..count).map(|i| (i + t) % count) {
+                let build = &self.builds[b];
+                timed(&mut took[b][0], asked.len(), || {
+                    asked.iter().fold(counted(0), |_, _| {
+                        build.live_count::<I>(black_box(sides.store.slices()))
+                    })
+                });
+                answers.push(timed(&mut took[b][1], asked.len(), || {
+                    let ask = |asked: &Asked<I>| {
+                        let scratch = &mut scratch[..asked.scratch];
+                        let slices = sides.store.slices();
+                        build.query::<I>(slices, scratch, &asked.hashes, RATE, &settings)
+                    };
+                    asked.iter().map(ask).collect()
+                }));
+            }
+            assert!(
+                answers.iter().all(|answer| *answer == answers[0]),
+                "all builds answer the same"
+            );
+            for (times, [scan, query]) in times.iter_mut().zip(took) {
+                for (times, took) in times.iter_mut().zip([query, scan, query - scan]) {
+                    times.push(took);
+                }
+            }
+        }
+        let medians: Vec<[f64; 3]> = times.into_iter().map(|all| all.map(median)).collect();
+        for (i, (build, all)) in self.builds.iter().zip(&medians).enumerate() {
+            let figure = |(time, first): (&f64, &f64)| match i {
+                0 => micros(*time),
+                _ => format!("{:.3}", time / first),
+            };
+            let figures: Vec<String> = all.iter().zip(&medians[0]).map(figure).collect();
+            self.rows.push(format!(
+                "| {title} | {} | {} |",
+                build.file,
+                figures.join(" | ")
+            ));
+        }
+    }
 }

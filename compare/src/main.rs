@@ -4,11 +4,14 @@
 //! and an end with status 1 at the first difference. `--scale` multiplies the
 //! random inputs; `--only` runs the checks whose name contains NAME.
 //! `compare --bench [--only NAME]` measures both sides instead.
+//! `compare --bench --builds FILE,FILE.. [--only NAME]` measures the queries of
+//! builds of the library beside each other, each a shared object.
 //! `compare --write-replay FILE` writes the list that the program `replay` runs
 //! on, `crates/replay/stdin`.
 
 mod account;
 mod bench;
+mod builds;
 mod calls;
 mod capi;
 mod consolidate;
@@ -31,7 +34,8 @@ use harness::Run;
 
 fn usage() -> ! {
     eprintln!(
-        "usage: compare [--seed S] [--scale N] [--only NAME] [--bench] [--write-replay FILE]"
+        "usage: compare [--seed S] [--scale N] [--only NAME] [--bench [--builds FILE,FILE..]] \
+         [--write-replay FILE]"
     );
     std::process::exit(2);
 }
@@ -44,6 +48,7 @@ fn main() {
         checks: Vec::new(),
     };
     let mut measure = false;
+    let mut builds: Option<Vec<String>> = None;
     let mut words = std::env::args().skip(1);
     while let Some(word) = words.next() {
         let mut number = || {
@@ -57,12 +62,23 @@ fn main() {
             "--scale" => run.scale = number(),
             "--only" => run.only = Some(words.next().unwrap_or_else(|| usage())),
             "--bench" => measure = true,
+            "--builds" => {
+                let files = words.next().unwrap_or_else(|| usage());
+                builds = Some(files.split(',').map(str::to_string).collect());
+            }
             "--write-replay" => {
                 replay::write(&words.next().unwrap_or_else(|| usage()));
                 return;
             }
             _ => usage(),
         }
+    }
+    if let Some(files) = builds {
+        if let Err(why) = depot::builds(&files, run.only.as_deref()) {
+            eprintln!("compare: {why}");
+            std::process::exit(2);
+        }
+        return;
     }
     if measure {
         bench::run(run.only.as_deref());

@@ -1,8 +1,8 @@
 -- Entries and rows as a build lays them down. Definitions only. Assumes nothing.
 use mathlib.Core.Path.{_≡_}
-use mathlib.Core.List.{List, _∷_, map}
+use mathlib.Core.List.{List, map}
 use mathlib.Core.Option.{some}
-use Prim.Native.Nat.{ℕ, _+_, _*_, _-_, _/_, _≤_, _<_}
+use Prim.Native.Nat.{ℕ, _-_, _/_, _≤_, _<_}
 use lib.ListN.{getD, take, drop}
 use Rattle.lists.specs.Lists.{sum}
 use Rattle.maps.specs.Puts.{entryOf}

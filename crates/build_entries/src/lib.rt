@@ -8,10 +8,11 @@ ghost use Rattle.lists.specs.Lists.{sum, flat, All};
 ghost use Rattle.build_ranges.specs.Codes.{Fit, tabulate, ranksFrom};
 ghost use Rattle.build_sort.specs.Digits.{Readable};
 ghost use Rattle.model.specs.Fingerprints.{hashesOf};
-ghost use Rattle.model.specs.Rows.{hasRmax, largestAnchor};
+ghost use Rattle.model.specs.Rows.{hasRmax, largestAnchor, canonical};
 ghost use Rattle.model.specs.Words.{headWidth, rowWidth};
 ghost use Rattle.maps.specs.Puts.{entryOf};
 ghost use Rattle.build_entries.specs.Laid.{entryBy, SameFrom, laidEntries, StartsTo, rowFor};
+use rows::Row;
 use slices::at;
 use slices::size;
 
@@ -94,23 +95,23 @@ pub fn lay_all(posts: &mut [u32], w: usize, hashes: &[u32], lengths: &[u32])
     lay_ranks(posts, w, m, hashes, &starts);
 }
 
-// r_max of the recording whose n hashes stand from `start` on.
-fn part_max(hashes: &[u32], w: usize, start: usize, n: usize) -> u32
+// The row of the recording whose n hashes stand from `start` on.
+fn part_row(hashes: &[u32], w: usize, start: usize, n: usize, rate: u32) -> Row
     requires { ⌜ (3 ≤ w) × ((w - 1) * (start + n) ≤ length (now hashes)) ⌝ }
-    ensures { λ r. ⌜ r ≡ cond (hasRmax w) (largestAnchor (take n (drop start (hashesOf w (now (hashes .entry)))))) 0 ⌝ }
+    ensures { λ r. ⌜ (r .rate ≡ canonical rate) × (r .rmax ≡ cond (hasRmax w) (largestAnchor (take n (drop start (hashesOf w (now (hashes .entry)))))) 0) ⌝ }
 {
     let v = w - 1;
     let a = v * start;
     let e = v * (start + n);
-    rows::row_max(&hashes[a..e], w)
+    rows::row_of(&hashes[a..e], w, rate)
 }
 
 // Row i, and no vacant entry in it.
-fn lay_row(refs: &mut [u32], i: usize, rate: u32, rmax: u32)
+fn lay_row(refs: &mut [u32], i: usize, row: Row)
     requires { ⌜ headWidth + rowWidth * (i + 1) ≤ length (now refs) ⌝ }
-    ensures { λ _. ⌜ take (headWidth + rowWidth * (i + 1)) (now (refs .exit)) ≡ take (headWidth + rowWidth * i) (now (refs .entry)) ++ rate ∷ rmax ∷ 1 ∷ 0 ∷ [] ⌝ }
+    ensures { λ _. ⌜ take (headWidth + rowWidth * (i + 1)) (now (refs .exit)) ≡ take (headWidth + rowWidth * i) (now (refs .entry)) ++ row .rate ∷ row .rmax ∷ 1 ∷ 0 ∷ [] ⌝ }
 {
-    rows::put_row(refs, i, rate, rmax, 1);
+    rows::put_row(refs, i, row, 1);
     rows::put_entry(refs, i, 0);
 }
 
@@ -124,8 +125,8 @@ pub fn put_rows(refs: &mut [u32], hashes: &[u32], w: usize, lengths: &[u32], rat
     let mut i = 0;
     while i < lengths.len() {
         let n = size(at(lengths, i));
-        let rate = rows::canonical_rate(at(rates, i));
-        lay_row(refs, i, rate, part_max(hashes, w, start, n));
+        let row = part_row(hashes, w, start, n, at(rates, i));
+        lay_row(refs, i, row);
         start += n;
         i += 1;
     }

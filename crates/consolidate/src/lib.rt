@@ -2,7 +2,7 @@
 // the box sweep over a Wang candidate's bins. A bin is two words of a slice: its offset, its count.
 ghost use mathlib.Core.Path.{_≡_};
 ghost use mathlib.Core.Bool.{_||_};
-ghost use Prim.Native.Nat.{ℕ, _+_, _-_, _*_, _<_, _≤_, _^_, min};
+ghost use Prim.Native.Nat.{_+_, _-_, _*_, _<_, _≤_, _^_};
 ghost use lib.ListN.{length, getD};
 ghost use lib.IntN.{ℤ, pos, natAbs, _+ℤ_};
 ghost use lib.Signed.{ltZ};
@@ -16,6 +16,7 @@ ghost use Rattle.consolidate.specs.Limits.{Bins, binOk, binsOk, Span, en
 ghost use Rattle.consolidate.specs.Windows.{windowSum, Passed, Slides, Covers};
 ghost use Rattle.consolidate.specs.Tallies.{tallyOf};
 ghost use Rattle.consolidate.specs.Sweeping.{Placed, Next, betterOf, Swept};
+use maps::smaller;
 use signed::is_at_most;
 use signed::is_less;
 use signed::is_natural;
@@ -60,12 +61,6 @@ fn saturating_sub(a: u64, b: u64) -> u64
     ensures { λ r. ⌜ r ≡ a - b ⌝ }
 {
     if b <= a { a - b } else { 0 }
-}
-
-fn smaller(a: u64, b: u64) -> u64
-    ensures { λ r. ⌜ r ≡ min a b ⌝ }
-{
-    if a <= b { a } else { b }
 }
 
 // ---- the mode

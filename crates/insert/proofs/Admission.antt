@@ -20,7 +20,7 @@ use Rattle.lists.proofs.Entries.{length-read, read-at}
 use Rattle.model.specs.Fingerprints.{fingerprintOf, hashesOf, hashCount, uneven, malformed, referenceMost}
 use Rattle.model.specs.Rows.{hasRmax, largestAnchor, canonical, rowOf}
 use Rattle.model.specs.Index.{Index, keyOf, posted, unskipped, isStopped, stoppedAfter, postingsAfter, newId, inserted}
-use Rattle.model.specs.Calls.{Sizes, stored, refused, Answer}
+use Rattle.model.specs.Calls.{Sizes, stored, refused}
 use Rattle.model.specs.Words.{Words, sizesOf, sizesListed, between, slicesListed, write, postingWords, readRow, readVacant, readPosting, readIndex, headWidth, rowWidth, atVacant}
 use Rattle.model.specs.Sound.{Sound}
 use Rattle.model.specs.Soundness.{rowWord, soundWords}

@@ -17,6 +17,7 @@ ghost use Rattle.soundness.specs.Scan.{lent};
 ghost use Rattle.insert.specs.Writing.{Placing, placedEntries, Stopping, recorded, Recording, idIn, postingsIn, Writable};
 ghost use Rattle.insert.specs.Insert.{insertionAnswer, Ready, noRow};
 use rows::Counts;
+use rows::Row;
 use slices::size;
 
 // "stored with an id", or "refused with a number".
@@ -70,18 +71,18 @@ fn new_id(refs: &[u32], c: Counts) -> usize
 }
 
 // Recording id is written into the references, from what is in use; p postings and k stopped keys are left.
-fn put_recording(refs: &mut [u32], c: Counts, id: usize, rate: u32, rmax: u32, p: usize, k: usize)
+fn put_recording(refs: &mut [u32], c: Counts, id: usize, row: Row, p: usize, k: usize)
     requires { ⌜ Recording (now refs) (c .rows) (c .vacant) id p k ⌝ }
-    ensures { λ _. ⌜ now (refs .exit) ≡ recorded (now (refs .entry)) (c .rows) (c .vacant) id rate rmax p k ⌝ }
+    ensures { λ _. ⌜ now (refs .exit) ≡ recorded (now (refs .entry)) (c .rows) (c .vacant) id (row .rate) (row .rmax) p k ⌝ }
 {
     let n = c.rows;
     let v = c.vacant;
     if v == 0 {
-        rows::put_row(refs, id, rate, rmax, 1);
+        rows::put_row(refs, id, row, 1);
         rows::put_header(refs, (n + 1) as u32, 0, p as u32, k as u32);
     } else {
         rows::put_entry(refs, v - 1, 0);
-        rows::put_row(refs, id, rate, rmax, 1);
+        rows::put_row(refs, id, row, 1);
         rows::put_header(refs, n as u32, (v - 1) as u32, p as u32, k as u32);
     }
 }
@@ -113,15 +114,7 @@ fn write_recording(
     let id = new_id(refs, h);
     let q = place_news(posts, w, h.postings, hashes, id as u32, order, m, overs, n);
     stop_keys(stops, k, overs, n);
-    put_recording(
-        refs,
-        h,
-        id,
-        rows::canonical_rate(rate),
-        rows::row_max(hashes, w),
-        q,
-        k + n,
-    );
+    put_recording(refs, h, id, rows::row_of(hashes, w, rate), q, k + n);
     id as u32
 }
 

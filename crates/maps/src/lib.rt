@@ -1,7 +1,7 @@
 // Sorted slices: the first entry at a key, the part under one key, and words of scratch.
 ghost use mathlib.Core.Path.{_≡_};
 ghost use mathlib.Core.Bool.{true};
-ghost use Prim.Native.Nat.{_+_, _*_, _-_, _≤_, _<_, _^_};
+ghost use Prim.Native.Nat.{_+_, _*_, _-_, _≤_, _<_, _^_, min};
 ghost use lib.IntN.{pos};
 ghost use lib.ListN.{length, getD, take, drop, set, replicate};
 ghost use Rattle.lists.specs.Lists.{flat, member};
@@ -169,4 +169,10 @@ pub fn zero_words(s: &mut [i64])
         s[i] = 0;
         i += 1;
     }
+}
+
+pub fn smaller(a: u64, b: u64) -> u64
+    ensures { λ r. ⌜ r ≡ min a b ⌝ }
+{
+    if a <= b { a } else { b }
 }

@@ -4,12 +4,13 @@ ghost use Prim.Native.Nat.{_+_, _*_, _≤_};
 ghost use lib.ListN.{length, getD};
 ghost use Rattle.model.specs.Soundness.{liveId};
 ghost use Rattle.model.specs.Run.{runCount, runRemove};
-ghost use Rattle.soundness.specs.Scan.{lent, words};
+ghost use Rattle.soundness.specs.Scan.{lent};
 ghost use Rattle.model.specs.Words.{headWidth, rowWidth};
 ghost use Rattle.remove.specs.Answers.{countAnswer, removalAnswer};
 ghost use Rattle.remove.specs.Erasing.{vacated, others, othersLeft, Erasable};
 use rows::AT_LIVE;
 use rows::NO_RATE;
+use rows::Row;
 use rows::row_word;
 use slices::at;
 use slices::size;
@@ -58,7 +59,11 @@ fn vacate(refs: &mut [u32], id: u32, held: u32)
     let n = refs[0];
     let v = refs[1];
     let k = refs[3];
-    rows::put_row(refs, size(id), NO_RATE, 0, 0);
+    let row = Row {
+        rate: NO_RATE,
+        rmax: 0,
+    };
+    rows::put_row(refs, size(id), row, 0);
     rows::put_entry(refs, size(v), id);
     rows::put_header(refs, n, v + 1, held, k);
 }

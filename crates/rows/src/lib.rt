@@ -36,6 +36,12 @@ pub struct Counts {
     pub stopped: usize,
 }
 
+// What a row says of its recording.
+pub struct Row {
+    pub rate: u32,
+    pub rmax: u32,
+}
+
 // The first four words.
 pub fn header(refs: &[u32]) -> Counts
     requires { ⌜ headWidth ≤ length (now refs) ⌝ }
@@ -77,12 +83,12 @@ fn put_word(refs: &mut [u32], j: usize, f: usize, x: u32)
 }
 
 // Writes row j but for its vacant entry.
-pub fn put_row(refs: &mut [u32], j: usize, rate: u32, rmax: u32, live: u32)
+pub fn put_row(refs: &mut [u32], j: usize, row: Row, live: u32)
     requires { ⌜ headWidth + rowWidth * (j + 1) ≤ length (now refs) ⌝ }
-    ensures { λ _. ⌜ now (refs .exit) ≡ rowPut (now (refs .entry)) j rate rmax live ⌝ }
+    ensures { λ _. ⌜ now (refs .exit) ≡ rowPut (now (refs .entry)) j (row .rate) (row .rmax) live ⌝ }
 {
-    put_word(refs, j, AT_RATE, rate);
-    put_word(refs, j, AT_RMAX, rmax);
+    put_word(refs, j, AT_RATE, row.rate);
+    put_word(refs, j, AT_RMAX, row.rmax);
     put_word(refs, j, AT_LIVE, live);
 }
 
@@ -95,7 +101,7 @@ pub fn put_entry(refs: &mut [u32], i: usize, id: u32)
 }
 
 // A NaN's word becomes the one word that a store has for it.
-pub fn canonical_rate(rate: u32) -> u32
+fn canonical_rate(rate: u32) -> u32
     ensures { λ r. ⌜ r ≡ canonical rate ⌝ }
 {
     if 0x7F80_0000 < rate % 0x8000_0000 {
@@ -136,6 +142,17 @@ pub fn row_max(hashes: &[u32], w: usize) -> u32
         return largest_anchor(hashes, 2, hashes.len() / 2);
     }
     0
+}
+
+// The row of a recording, from its hashes and its rate.
+pub fn row_of(hashes: &[u32], w: usize, rate: u32) -> Row
+    requires { ⌜ 3 ≤ w ⌝ }
+    ensures { λ r. ⌜ (r .rate ≡ canonical rate) × (r .rmax ≡ cond (hasRmax w) (largestAnchor (hashesOf w (now (hashes .entry)))) 0) ⌝ }
+{
+    Row {
+        rate: canonical_rate(rate),
+        rmax: row_max(hashes, w),
+    }
 }
 
 // Whether the words are no whole hashes, or more than `most` of them.

@@ -2,7 +2,7 @@
 use borrow.Author.Needs.{needs}
 use native.Mathlib.Omega.{arith}
 use mathlib.Core.Path.{_∙_}
-use Prim.Native.Nat.{_+_, _*_, _-_}
+use Prim.Native.Nat.{_*_, _-_}
 use Rattle.maps.specs.Puts.{entryOf}
 use Rattle.maps.proofs.Puts.{length-entryOf}
 use Rattle.build_entries.proofs.Prefix.{entry-done}

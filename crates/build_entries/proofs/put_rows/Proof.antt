@@ -61,24 +61,21 @@ at-requires-2 c κs =
     let s = c .before .before .before .before .before .before .before .before in
     omega (arith, s .pre .2)
 
-canonical-rate-requires : tie.Need-canonical-rate-requires Inv-loop μ-loop
-canonical-rate-requires c κs = search needs
-
-part-max-requires : tie.Need-part-max-requires Inv-loop μ-loop
-part-max-requires c κs =
-    let A = c .before .before .before .before in
-    (o A .pre .0, rw (c .before .before .before .size .ensures, A .at .ensures) (in-words A))
+part-row-requires : tie.Need-part-row-requires Inv-loop μ-loop
+part-row-requires c κs =
+    let A = c .before .before in
+    (o A .pre .0, rw (c .before .size .ensures, A .at .ensures) (in-words A))
 
 lay-row-requires : tie.Need-lay-row-requires Inv-loop μ-loop
 lay-row-requires c κs =
-    let s = c .before .before .before .before .before .before .before .before .before .before .before .before in
-    let l = c .before .before .before .before .before .before .before .loop in
+    let s = c .before .before .before .before .before .before .before .before .before .before .before in
+    let l = c .before .before .before .before .before .before .loop in
     omega (arith, s .pre .1, l .inv .2)
 
 add-start : tie.Need-add-start Inv-loop μ-loop
 add-start c =
-    let A = c .before .before .before .before .before .before .before .before in
-    omega (arith, c .before .before .before .before .before .before .before .size .ensures, A .at .ensures, in-words A, scale-le (o A .args .w - 1) (I A .before .loop .start + getD (o A .args .lengths .now) (i A) 0) (o A .pre .3 .some))
+    let A = c .before .before .before .before .before .before .before in
+    omega (arith, c .before .before .before .before .before .before .size .ensures, A .at .ensures, in-words A, scale-le (o A .args .w - 1) (I A .before .loop .start + getD (o A .args .lengths .now) (i A) 0) (o A .pre .3 .some))
 
 add-i : tie.Need-add-i Inv-loop μ-loop
 add-i c = search needs
@@ -88,13 +85,13 @@ loop-less c = search needs
 
 loop-again : tie.Need-loop-again Inv-loop μ-loop
 loop-again c =
-    let A = c .before .before .before .before .before .before .before .before in
+    let A = c .before .before .before .before .before .before .before in
     let s = o A in
     let l = I A .before .loop in
     let g = c .before .before .lay-row in
-    let n : c .before .before .before .before .before .before .before .size .result ≡ getD (s .args .lengths .now) (l .i) 0 = c .before .before .before .before .before .before .before .size .ensures ∙ A .at .ensures in
-    let same = row-is (s .args .hashes .now) (s .args .w) (sum (take (l .i) (s .args .lengths .now))) (getD (s .args .lengths .now) (l .i) 0) (getD (s .args .rates .now) (l .i) 0) (l .start) (c .before .before .before .before .before .before .before .size .result) (c .before .before .before .before .before .canonical-rate .result) (c .before .before .before .part-max .result)
-    (c .before .before .before .before .before .canonical-rate .ensures ∙ ap canonical (c .before .before .before .before .before .before .at2 .ensures)) (c .before .before .before .part-max .ensures) (l .inv .1) n in
+    let n : c .before .before .before .before .before .before .size .result ≡ getD (s .args .lengths .now) (l .i) 0 = c .before .before .before .before .before .before .size .ensures ∙ A .at .ensures in
+    let same = row-is (s .args .hashes .now) (s .args .w) (sum (take (l .i) (s .args .lengths .now))) (getD (s .args .lengths .now) (l .i) 0) (getD (s .args .rates .now) (l .i) 0) (l .start) (c .before .before .before .before .before .before .size .result) (c .before .before .before .before .part-row .result .rate) (c .before .before .before .before .part-row .result .rmax)
+    (c .before .before .before .before .part-row .ensures .0 ∙ ap canonical (c .before .before .before .before .before .at2 .ensures)) (c .before .before .before .before .part-row .ensures .1) (l .inv .1) n in
     let e = g .ensures ∙ ap (λ (m : List ℕ). take (headWidth + rowWidth * l .i) (l .refs) ++ m) same in
     (omega arith, omega (arith, next A, n), g .kept .0 ∙ l .inv .2, rows-more (row A) (s .args .refs .now) (l .refs) (g .last .0) (l .i) (l .inv .3) e)
 
@@ -119,8 +116,7 @@ put-rows-spec =
     at-requires
     size-requires
     at-requires-2
-    canonical-rate-requires
-    part-max-requires
+    part-row-requires
     lay-row-requires
     add-start
     add-i

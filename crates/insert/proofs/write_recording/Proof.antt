@@ -38,24 +38,21 @@ place-news-requires c κs = let d = c .before in placing-from (s d .args .w) (s 
 stop-keys-requires : tie.Need-stop-keys-requires
 stop-keys-requires c κs = let d = c .before .before .before .before .before in stopping-from (s d .args .w) (s d .args .refs .now) (s d .args .posts .now) (s d .args .stops .now) (s d .args .hashes .now) (s d .args .order .now) (s d .args .m) (s d .args .overs .now) (s d .args .n) (s d .pre) (head d .header .result) (head d .header .ensures)
 
-canonical-rate-requires : tie.Need-canonical-rate-requires
-canonical-rate-requires c κs = search needs
-
-row-max-requires : tie.Need-row-max-requires
-row-max-requires c κs = search needs
+row-of-requires : tie.Need-row-of-requires
+row-of-requires c κs = search needs
 
 add-put-recording : tie.Need-add-put-recording
 add-put-recording c = search needs
 
 put-recording-requires : tie.Need-put-recording-requires
 put-recording-requires c κs =
-    let e = c .before .before .before .before .before .before .before .before .before in
+    let e = c .before .before .before .before .before .before .before .before in
     let d = e .before .before in
     recording-from (s d .args .w) (s d .args .refs .now) (s d .args .posts .now) (s d .args .stops .now) (s d .args .hashes .now) (s d .args .order .now) (s d .args .m) (s d .args .overs .now) (s d .args .n) (s d .pre) (head d .header .result) (head d .header .ensures) (d .new-id .result) (e .place-news .result) (id-is d) (e .place-news .ensures .0)
 
 cast-result : tie.Need-cast-result
 cast-result c =
-    let e = c .before .before .before .before .before .before .before .before .before .before .before .before in
+    let e = c .before .before .before .before .before .before .before .before .before .before .before in
     let d = e .before .before in
     omega (arith, id-small (s d .args .w) (s d .args .refs .now) (s d .args .posts .now) (s d .args .stops .now) (s d .args .hashes .now) (s d .args .order .now) (s d .args .m) (s d .args .overs .now) (s d .args .n) (s d .pre) (head d .header .result) (head d .header .ensures) (d .new-id .result) (id-is d))
 
@@ -71,9 +68,8 @@ same-length-3 c = search needs
 returns : tie.Need-returns
 returns c =
     let put = c .before .before in
-    let top = put .before in
-    let rate = top .before in
-    let stop = rate .before .before .before .before in
+    let row = put .before in
+    let stop = row .before .before .before .before in
     let e = stop .before .before .before .before in
     let d = e .before .before in
     let placed = placed-from (s d .args .w) (s d .args .refs .now) (s d .args .posts .now) (s d .args .stops .now) (s d .args .hashes .now) (s d .args .order .now) (s d .args .m) (s d .args .overs .now) (s d .args .n) (s d .pre) (head d .header .result) (head d .header .ensures) (d .new-id .result) (id-is d) in (
@@ -81,7 +77,7 @@ returns c =
       (
         put .put-recording .ensures ∙ recorded-all (s d .args .refs .now) (head d .header .result .rows) (getD (s d .args .refs .now) 0 0) (head d .header .result .vacant) (getD (s d .args .refs .now) 1 0)
             (d .new-id .result) (idIn (s d .args .refs .now)) _ _ _ _ (e .place-news .result) _ (head d .header .result .stopped + s d .args .n) (getD (s d .args .refs .now) 3 0 + s d .args .n)
-            (head d .header .ensures .rows) (head d .header .ensures .vacant) (id-is d) (rate .canonical-rate .ensures) (top .row-max .ensures)
+            (head d .header .ensures .rows) (head d .header .ensures .vacant) (id-is d) (row .row-of .ensures .0) (row .row-of .ensures .1)
             (e .place-news .ensures .0 ∙ ap length placed) (ap (λ (k : ℕ). k + s d .args .n) (head d .header .ensures .stopped)),
         (
           e .place-news .ensures .1 ∙ ap (λ es. padded (length (s d .args .posts .now)) (flat es)) placed,
@@ -99,8 +95,7 @@ write-recording-spec =
     cast-place-news
     place-news-requires
     stop-keys-requires
-    canonical-rate-requires
-    row-max-requires
+    row-of-requires
     add-put-recording
     put-recording-requires
     cast-result

@@ -29,7 +29,7 @@ returns c =
     let first = second .before .before .before .before in
     let a = first .before .before .before .args in
     third .put-word3 .ensures
-    ∙ ap (λ (l : List ℕ). set l (rowPlace (a .j) atLive) (a .live)) (second .put-word2 .ensures ∙ ap (λ (l : List ℕ). set l (rowPlace (a .j) atRmax) (a .rmax)) (first .put-word .ensures))
+    ∙ ap (λ (l : List ℕ). set l (rowPlace (a .j) atLive) (a .live)) (second .put-word2 .ensures ∙ ap (λ (l : List ℕ). set l (rowPlace (a .j) atRmax) (a .row .rmax)) (first .put-word .ensures))
 
 pub put-row-spec : {M : Type 1} → statement M
 put-row-spec =
