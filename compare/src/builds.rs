@@ -1,5 +1,6 @@
 //! Builds of the library as shared objects, so that several can be loaded side
-//! by side and asked the same queries in turn.
+//! by side and asked the same queries in turn. Their C functions must take what
+//! `capi` says.
 
 use crate::capi::{Answer, Settings, UNANSWERED};
 use crate::store::Index;
@@ -16,7 +17,7 @@ unsafe extern "C" {
 type LiveCount =
     unsafe extern "C" fn(*const u32, usize, *const u32, usize, *const u32, usize, &mut Answer);
 
-/// The three slices, scratch, hashes, then `N` numbers: the rate and the
+/// The three slices, scratch, hashes, then numbers: the rate and the
 /// settings, in the order of the C function.
 macro_rules! query_type {
     ($($number:ty),*) => {

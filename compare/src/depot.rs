@@ -660,7 +660,9 @@ impl Measuring for BesideBuilds<'_> {
     /// Medians of `turns` turns, a query: all of it, the scan, the rest; of
     /// the builds after the first, their ratios to the first's. A turn asks
     /// each build once, since a build that is asked the same again has its
-    /// branches foreseen, and begins with another each time.
+    /// branches foreseen, and begins with another each time. Ratios are taken
+    /// within a few turns, so that the machine's own changes of speed count
+    /// little.
     fn row<I: Index>(
         &mut self,
         title: String,
@@ -704,13 +706,12 @@ impl Measuring for BesideBuilds<'_> {
                 }
             }
         }
-        let medians: Vec<[f64; 3]> = times.into_iter().map(|all| all.map(median)).collect();
-        for (i, (build, all)) in self.builds.iter().zip(&medians).enumerate() {
-            let figure = |(time, first): (&f64, &f64)| match i {
-                0 => micros(*time),
-                _ => format!("{:.3}", time / first),
+        for (b, (build, all)) in self.builds.iter().zip(&times).enumerate() {
+            let figure = |(times, first): (&Vec<f64>, &Vec<f64>)| match b {
+                0 => micros(median(times.clone())),
+                _ => format!("{:.3}", ratio(times, first, count)),
             };
-            let figures: Vec<String> = all.iter().zip(&medians[0]).map(figure).collect();
+            let figures: Vec<String> = all.iter().zip(&times[0]).map(figure).collect();
             self.rows.push(format!(
                 "| {title} | {} | {} |",
                 build.file,
@@ -718,4 +719,12 @@ impl Measuring for BesideBuilds<'_> {
             ));
         }
     }
+}
+
+/// How one build's times stand to another's: the median over rounds of
+/// `turns` turns, in each of which every build has been asked first once.
+fn ratio(ours: &[f64], first: &[f64], turns: usize) -> f64 {
+    let sum = |round: &[f64]| round.iter().sum::<f64>();
+    let rounds = ours.chunks_exact(turns).zip(first.chunks_exact(turns));
+    median(rounds.map(|(a, b)| sum(a) / sum(b)).collect())
 }
