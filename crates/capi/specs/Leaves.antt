@@ -6,7 +6,7 @@ use lib.IntN.{ℤ}
 use lib.Dec.{leb}
 use lib.ListN.{length}
 use lib.Ieee.{binary32, toBits}
-use Rattle.consolidate.specs.declared.Mode.the-variants.{At, Nothing}
+use Rattle.consolidate.specs.declared.Mode.the-variants.{Offset, Nothing}
 use Rattle.consolidate.specs.declared.CheckedMode.{CheckedMode}
 use Rattle.consolidate.specs.declared.CheckedMode.the-variants as checked-mode
 use Rattle.consolidate.specs.declared.CheckedPeak.{CheckedPeak}
@@ -29,7 +29,7 @@ refusedWords = 0 ∷ 0 ∷ 0 ∷ 0 ∷ 0 ∷ 0 ∷ 0 ∷ 0 ∷ []
 abbrev pub modeWords : CheckedMode → List ℕ
 modeWords checked-mode.Refused = refusedWords
 modeWords (checked-mode.Found Nothing) = 1 ∷ 0 ∷ 0 ∷ 0 ∷ 0 ∷ 0 ∷ 0 ∷ 0 ∷ []
-modeWords (checked-mode.Found (At d)) = 2 ∷ twosComplement d ∷ 0 ∷ 0 ∷ 0 ∷ 0 ∷ 0 ∷ 0 ∷ []
+modeWords (checked-mode.Found (Offset d)) = 2 ∷ twosComplement d ∷ 0 ∷ 0 ∷ 0 ∷ 0 ∷ 0 ∷ 0 ∷ []
 
 abbrev pub peakWords : CheckedPeak → List ℕ
 peakWords checked-peak.Refused = refusedWords

@@ -46,7 +46,7 @@ pub extern "C" fn consolidate_mode_offset(bins: &[i64], answer: &mut [u64; 8])
             Mode::Nothing => {
                 *answer = [1, 0, 0, 0, 0, 0, 0, 0];
             }
-            Mode::At(d) => {
+            Mode::Offset(d) => {
                 let mode = crate::word_of(d);
                 *answer = [2, mode, 0, 0, 0, 0, 0, 0];
             }

@@ -10,7 +10,7 @@ use Rattle.maps.specs.Sums.{sumTo, sumToℤ, greatest, when, whenℤ}
 use Rattle.consolidate.specs.Modes.{nearestMean, mode}
 use Rattle.consolidate.specs.Tallies.{tallyOf}
 use Rattle.consolidate.specs.declared.Tally.{Tally}
-use Rattle.consolidate.specs.declared.Mode.the-variants.{At, Nothing}
+use Rattle.consolidate.specs.declared.Mode.the-variants.{Offset, Nothing}
 use Rattle.maps.proofs.Sums.{sum-next, sum-cong, sum-zeros, sum-none, sum-under, keep-le, sumℤ-next, sumℤ-cong, sumℤ-zeros, sumℤ-none, sumℤ-under, keepℤ-abs, greatest-next, greatest-cong, greatest-over, greatest-zeros}
 
 -- offset y has the count best, which is not 0
@@ -122,11 +122,11 @@ module _ (m : ℕ → ℕ) (z : ℕ → ℤ) (k : ℕ) (t : Tally) (T : Tallied 
   unfolding mode
   mode-none e = rw (eq-eqb (greatest m k) 0 (sym (T .top) ∙ e)) refl
 
-  pub mode-some : (t .best ≡ 0 → ⊥) → At (nearestMean (t .sum) (t .count)) ≡ mode m z k
+  pub mode-some : (t .best ≡ 0 → ⊥) → Offset (nearestMean (t .sum) (t .count)) ≡ mode m z k
   unfolding mode
   mode-some h =
       let e = ties-are m z k t (omega arith) T in
-      rw (ne-eqb (greatest m k) 0 (λ q. h (T .top ∙ q))) (sym (ap At (ap₂ nearestMean (e .1) (e .0))))
+      rw (ne-eqb (greatest m k) 0 (λ q. h (T .top ∙ q))) (sym (ap Offset (ap₂ nearestMean (e .1) (e .0))))
 
 -- counts that agree have one mode
 pub mode-cong : (m m′ : ℕ → ℕ) (z : ℕ → ℤ) (k : ℕ) → ((x : ℕ) → x < k → m x ≡ m′ x) → mode m z k ≡ mode m′ z k

@@ -5,7 +5,7 @@ use lib.IntN.{ℤ, pos, negsuc, negℤ, _-ℤ_, _*ℤ_}
 use lib.Dec.{eqb}
 use Rattle.maps.specs.Sums.{sumTo, sumToℤ, greatest, when, whenℤ}
 use Rattle.consolidate.specs.declared.Mode.{Mode}
-use Rattle.consolidate.specs.declared.Mode.the-variants.{At, Nothing}
+use Rattle.consolidate.specs.declared.Mode.the-variants.{Offset, Nothing}
 
 -- ⌈ num / den ⌉; proofs/Ceiling.antt proves that it is
 abbrev pub ceil : ℤ → ℕ → ℤ
@@ -25,9 +25,9 @@ tied m k x = eqb (m x) (greatest m k)
 unfoldable pub mode : (ℕ → ℕ) → (ℕ → ℤ) → ℕ → Mode
 mode m z k =
     cond (eqb (greatest m k) 0) Nothing
-    (At (nearestMean (sumToℤ (λ x. whenℤ (tied m k x) (z x)) k) (sumTo (λ x. when (tied m k x) 1) k)))
+    (Offset (nearestMean (sumToℤ (λ x. whenℤ (tied m k x) (z x)) k) (sumTo (λ x. when (tied m k x) 1) k)))
 
 -- the mode, and another offset if there is none
 abbrev pub modeOr : ℤ → Mode → ℤ
 modeOr other Nothing = other
-modeOr other (At d) = d
+modeOr other (Offset d) = d

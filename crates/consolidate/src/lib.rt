@@ -24,7 +24,7 @@ use signed::unsigned_abs;
 
 // The offset that is reported for a peak, if there is one.
 pub enum Mode {
-    At(i64),
+    Offset(i64),
     Nothing,
 }
 
@@ -158,14 +158,14 @@ pub fn mode_offset(s: &[i64], n: usize, from: usize, to: usize) -> Mode
     if t.best == 0 {
         return Mode::Nothing;
     }
-    Mode::At(nearest_mean(t.sum, t.count))
+    Mode::Offset(nearest_mean(t.sum, t.count))
 }
 
 fn mode_or(m: Mode, other: i64) -> i64
     ensures { λ r. ⌜ r ≡ modeOr other m ⌝ }
 {
     match m {
-        Mode::At(d) => d,
+        Mode::Offset(d) => d,
         Mode::Nothing => other,
     }
 }

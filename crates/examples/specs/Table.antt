@@ -10,7 +10,7 @@ use lib.Ieee.{Float, binary32, binary64, ofBits, ofInt, toBits}
 use Rattle.maps.specs.Bins.{offset, votes}
 use Rattle.floats.specs.Rounding.{roundToI64}
 use Rattle.consolidate.specs.declared.Mode.{Mode}
-use Rattle.consolidate.specs.declared.Mode.the-variants.{At, Nothing}
+use Rattle.consolidate.specs.declared.Mode.the-variants.{Offset, Nothing}
 use Rattle.consolidate.specs.declared.Peak.{Peak}
 use Rattle.consolidate.specs.Modes.{mode}
 use Rattle.consolidate.specs.Box.{boxPeak}
@@ -63,7 +63,7 @@ is32 x word = eqb (toBits binary32 x) word
 
 abbrev isAt : Mode → ℤ → Bool
 isAt Nothing z = false
-isAt (At d) z = sameℤ d z
+isAt (Offset d) z = sameℤ d z
 
 -- how many bins of so many words the list has
 abbrev binsIn : ℕ → List ℤ → ℕ

@@ -14,7 +14,7 @@ use Rattle.query_rank.specs.declared.Finding.the-variants as of-finding
 -- the best candidate so far, with its id
 abbrev pub bestSoFar : Best → Option (ℕ × MatchResult)
 bestSoFar of-best.Nothing = none
-bestSoFar (of-best.At id r) = some (id, r)
+bestSoFar (of-best.Candidate id r) = some (id, r)
 
 -- "best with its result, none, or refused with a number"
 abbrev pub findingAnswer : Finding → Answer

@@ -16,7 +16,7 @@ pub enum Verdict {
 // The best candidate so far: its id and its result.
 pub enum Best {
     Nothing,
-    At(u32, MatchResult),
+    Candidate(u32, MatchResult),
 }
 
 // "best with its result, none, or refused with a number".
@@ -31,12 +31,12 @@ fn track_best(best: Best, id: u32, result: MatchResult) -> Best
     ensures { λ r. ⌜ bestSoFar r ≡ trackBest (bestSoFar best) id (some result) ⌝ }
 {
     match best {
-        Best::Nothing => Best::At(id, result),
-        Best::At(first, old) => {
+        Best::Nothing => Best::Candidate(id, result),
+        Best::Candidate(first, old) => {
             if matching::is_better(result, old) {
-                return Best::At(id, result);
+                return Best::Candidate(id, result);
             }
-            Best::At(first, old)
+            Best::Candidate(first, old)
         }
     }
 }
@@ -57,6 +57,6 @@ pub fn answer_of(best: Best) -> Finding
 {
     match best {
         Best::Nothing => Finding::Nothing,
-        Best::At(id, result) => Finding::Best(id, result),
+        Best::Candidate(id, result) => Finding::Best(id, result),
     }
 }

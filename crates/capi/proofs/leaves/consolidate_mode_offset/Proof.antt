@@ -3,7 +3,7 @@ use mathlib.Core.Path.{_≡_, sym, ap, _∙_}
 use mathlib.Core.List.{[], _∷_}
 use Prim.Native.Nat.{ℕ}
 use lib.IntN.{ℤ}
-use Rattle.consolidate.specs.declared.Mode.the-variants.{At, Nothing}
+use Rattle.consolidate.specs.declared.Mode.the-variants.{Offset, Nothing}
 use Rattle.consolidate.specs.declared.CheckedMode.{CheckedMode}
 use Rattle.consolidate.specs.declared.CheckedMode.the-variants.{Refused, Found}
 use Rattle.capi.specs.Codes.{twosComplement}
@@ -38,7 +38,7 @@ refused r e = rw e
 none : (r : CheckedMode) → r ≡ Found Nothing → 1 ∷ 0 ∷ 0 ∷ 0 ∷ 0 ∷ 0 ∷ 0 ∷ 0 ∷ [] ≡ modeWords r
 none r e = rw e
 
-found : (r : CheckedMode) (d : ℤ) (n : ℕ) → r ≡ Found (At d) → n ≡ twosComplement d → 2 ∷ n ∷ 0 ∷ 0 ∷ 0 ∷ 0 ∷ 0 ∷ 0 ∷ [] ≡ modeWords r
+found : (r : CheckedMode) (d : ℤ) (n : ℕ) → r ≡ Found (Offset d) → n ≡ twosComplement d → 2 ∷ n ∷ 0 ∷ 0 ∷ 0 ∷ 0 ∷ 0 ∷ 0 ∷ [] ≡ modeWords r
 found r d n e h = rw (e, h)
 
 returns : tie.Need-returns
