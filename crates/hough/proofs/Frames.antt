@@ -1,23 +1,57 @@
--- The tally of the offsets near a peak, by leaps over those with no bin. Assumes nothing.
+-- The tally of the offsets near a peak, one offset after the other or by leaps; and the counts at one offset by a look at every bin.
+-- Assumes nothing.
 use Prim.Native.Nat.{ℕ, zero, suc, _+_, _-_, _*_, _^_, _≤_, _<_}
-use mathlib.Core.Path.{_≡_, refl, sym, ap, _∙_, subst}
+use mathlib.Core.Path.{_≡_, refl, sym, ap, ap₂, _∙_, subst}
+use mathlib.Core.Bool.{Bool, _&&_}
 use mathlib.Core.List.{List}
 use native.Mathlib.Omega.{arith}
 use native.Mathlib.Nat.{add-zero, add-suc}
 use native.Mathlib.Numerals.{add-one}
+use native.Mathlib.Decide.{decLt}
 use lib.IntN.{ℤ, pos, natAbs, _+ℤ_, _-ℤ_}
+use lib.Dec.{leb, eqb}
+use borrow.Author.Tests.{lt-leb, le-leb, eq-eqb, ne-eqb}
 use mir.Syntax.{w64}
 use mir.Val.{SFits, toZ, ofZ}
 use mir.ValLaws.{toZ-ofZ, toZ-pos}
+use Rattle.maps.specs.Sums.{sumTo, when}
 use Rattle.signed.proofs.Sizes.{fits-abs, abs-sub}
+use Rattle.maps.proofs.Sums.{sum-zero, sum-next, sum-cong, sum-mono, sum-kept}
 use Rattle.consolidate.specs.Tallies.{tallyOf}
 use Rattle.consolidate.specs.Modes.{nearestMean}
 use Rattle.consolidate.specs.declared.Tally.{Tally}
 use Rattle.consolidate.proofs.Tallies.{Tallied, tally-none, tally-more, tally-small}
-use Rattle.hough.specs.Hough.{offset, frame, merged, peakOffset}
+use Rattle.hough.specs.Hough.{scale, offset, votes, dist, gap, neighbour, frame, merged, peakOffset}
 use Rattle.hough.specs.Limits.{Bins}
-use Rattle.hough.specs.Keys.{frameTally}
-use Rattle.hough.proofs.Merging.{frame-close, offset-none, offset-is}
+use Rattle.hough.specs.Keys.{place, countAt, frameTally}
+use Rattle.hough.proofs.Places.{place-fits, apart-is}
+use Rattle.hough.proofs.Merging.{one-offset, frame-close, frame-gap, offset-none, offset-is}
+
+-- ---- the counts at one place
+
+abbrev there : List ℤ → ℕ → ℕ → ℕ → Bool
+there l k x j = leb (dist k (scale l j)) 1 && eqb (place l j) x
+
+pub count-none : (l : List ℤ) (k x : ℕ) → countAt l 0 k x ≡ 0
+unfolding countAt
+count-none l k x = sum-zero (λ j. when (there l k x j) (votes l j))
+
+pub count-more : (l : List ℤ) (k x j v : ℕ) → v ≡ when (there l k x j) (votes l j) → countAt l (j + 1) k x ≡ countAt l j k x + v
+unfolding countAt
+count-more l k x j v e = sum-next (λ j. when (there l k x j) (votes l j)) j ∙ ap (λ (z : ℕ). sumTo (λ j. when (there l k x j) (votes l j)) j + z) (sym e)
+
+pub count-small : (l : List ℤ) (n : ℕ) → Bins l n → (k x j : ℕ) → j ≤ n → countAt l j k x ≤ 1000000
+unfolding countAt
+count-small l n b k x j h = omega (arith, sum-kept (there l k x) (votes l) j, sum-mono (votes l) j n h, b .sum)
+
+-- no distance at all
+same-place : (p q : ℕ) → leb (dist p q) 0 ≡ eqb q p
+same-place p q = go (decLt p q) (decLt q p)
+  where
+    go : Dec (p < q) → Dec (q < p) → leb (dist p q) 0 ≡ eqb q p
+    go (yes a) b = rw (lt-leb (dist p q) 0 (omega arith), ne-eqb q p (λ e. omega arith)) refl
+    go (no a) (yes b) = rw (lt-leb (dist p q) 0 (omega arith), ne-eqb q p (λ e. omega arith)) refl
+    go (no a) (no b) = rw (le-leb (dist p q) 0 (omega arith), eq-eqb q p (omega arith)) refl
 
 -- ---- the tally
 
@@ -61,6 +95,18 @@ module _ (l : List ℤ) (n : ℕ) (b : Bins l n) (tol i : ℕ) (T : tol ≤ 6553
   frames-small x t u e =
       let s = tally-small (merged l n tol i) (frame l tol i) x (2 ^ 39 + 65535) t (λ y k. frame-close l n b tol i T h y (omega arith)) (subst (Tallied (merged l n tol i) (frame l tol i) x) (sym e) (tally-at l n tol i x)) in
       (omega (arith, s .0), omega (arith, s .1))
+
+  -- a neighbour at an offset within the tolerance is a bin at that place, one scale bin away at most
+  there-is : (y : ℕ) → y < 2 * tol + 1 → countAt l n (scale l i) (place l i - tol + y) ≡ merged l n tol i y
+  unfolding merged countAt
+  there-is y k =
+      let f = place-fits l n b i h in
+      sum-cong (λ j. when (there l (scale l i) (place l i - tol + y) j) (votes l j)) (λ j. when (neighbour l tol i j && eqb (gap (frame l tol i y) (offset l j)) 0) (votes l j)) n
+      (λ j u. rw (apart-is l n b i j h u, frame-gap l n b tol i T h y j k u, one-offset (leb (dist (scale l i) (scale l j)) 1) (place l i) (place l j) tol y (omega (arith, f .2)) k, same-place (place l i - tol + y) (place l j)) refl)
+
+  -- s being the scale bin of bin i and p its place
+  pub count-merged : (y s p v : ℕ) → y < 2 * tol + 1 → s ≡ scale l i → p ≡ place l i → v ≡ countAt l n s (p - tol + y) → v ≡ merged l n tol i y
+  count-merged y s p v k es ep ev = ev ∙ ap₂ (λ a c. countAt l n a (c - tol + y)) es ep ∙ there-is y k
 
   -- ---- what the machine reads back, z being the offset of bin i
 

@@ -50,7 +50,7 @@ part zero y h = omega arith
 part (suc t) y h = rw (sub-dist y (suc t)) (omega arith)
 
 -- a neighbour at one offset near p is at that offset in a neighbouring row
-one-offset : (A : Bool) (p q tol y : ℕ) → tol ≤ p → y < 2 * tol + 1 → ((A && leb (dist p q) tol) && eqb (dist (p - tol + y) q) 0) ≡ (A && leb (dist (p - tol + y) q) 0)
+pub one-offset : (A : Bool) (p q tol y : ℕ) → tol ≤ p → y < 2 * tol + 1 → ((A && leb (dist p q) tol) && eqb (dist (p - tol + y) q) 0) ≡ (A && leb (dist (p - tol + y) q) 0)
 one-offset false p q tol y h k = refl
 one-offset true p q tol y h k = go (decLt (p - tol + y) q) (decLt q (p - tol + y))
   where
@@ -93,7 +93,7 @@ module _ (l : List ℤ) (n : ℕ) (b : Bins l n) (tol i : ℕ) (T : tol ≤ 6553
   unfolding place
   frame-place y = let f = place-fits l n b i h in shifted (offset l i) tol y (2 ^ 40) (f .0) (omega (arith, f .2))
 
-  frame-gap : (y j : ℕ) → y < 2 * tol + 1 → j < n → gap (frame l tol i y) (offset l j) ≡ dist (place l i - tol + y) (place l j)
+  pub frame-gap : (y j : ℕ) → y < 2 * tol + 1 → j < n → gap (frame l tol i y) (offset l j) ≡ dist (place l i - tol + y) (place l j)
   unfolding place
   frame-gap y j k u =
       gap-is (frame l tol i y) (offset l j) (2 ^ 40) (omega (arith, frame-close y k)) (omega (arith, b .close j u))

@@ -5,12 +5,13 @@ use mathlib.Core.Bool.{Bool, cond, _&&_, _||_}
 use mathlib.Core.List.{List}
 use lib.IntN.{ℤ, pos, natAbs, _+ℤ_}
 use lib.ListN.{getD}
-use lib.Dec.{leb, ltb}
+use lib.Dec.{leb, ltb, eqb}
+use Rattle.maps.specs.Sums.{sumTo, when}
 use Rattle.consolidate.specs.Windows.{Slides, Covers}
 use Rattle.consolidate.specs.declared.Window.{Window}
 use Rattle.consolidate.specs.Tallies.{tallyOf}
 use Rattle.consolidate.specs.declared.Tally.{Tally}
-use Rattle.hough.specs.Hough.{scale, offset, votes, houghSum, frame, merged}
+use Rattle.hough.specs.Hough.{scale, offset, votes, dist, houghSum, frame, merged}
 use Rattle.hough.specs.declared.Peak.{Peak}
 use Rattle.hough.specs.declared.Windows.{Windows}
 use Rattle.hough.specs.declared.Background.{Background}
@@ -76,6 +77,10 @@ pub record Clear (l : List ℤ) (n x : ℕ) (t : Windows) (most r : ℕ) : Type 
   pub under : (j : ℕ) → t .under .enter ≤ j → j < n → x - row + r ≤ key l j
   pub here : (j : ℕ) → t .here .enter ≤ j → j < n → x + r ≤ key l j
   pub over : (j : ℕ) → t .over .enter ≤ j → j < n → x + row + r ≤ key l j
+
+-- the counts at place x, within one scale bin of k
+unfoldable pub countAt : List ℤ → ℕ → ℕ → ℕ → ℕ
+countAt l n k x = sumTo (λ j. when (leb (dist k (scale l j)) 1 && eqb (place l j) x) (votes l j)) n
 
 -- the tally of the first x offsets near that of bin i, each with the counts of bin i's neighbours there
 unfoldable pub frameTally : List ℤ → ℕ → ℕ → ℕ → ℕ → Tally

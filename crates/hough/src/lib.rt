@@ -6,18 +6,19 @@
 // place for the offset, with the offset 0 in the middle. The keys ascend, and the neighbours of a bin
 // are those whose keys lie within the tolerance of its own, or of the same place one row down or up.
 // So three windows slide over the bins, each by two indices that only grow. The sums of a few bins are
-// worked out pair by pair and kept.
+// worked out pair by pair and kept, and with a small tolerance the offset of their peak directly.
 ghost use mathlib.Core.Path.{_≡_};
-ghost use mathlib.Core.Bool.{_||_};
+ghost use mathlib.Core.Bool.{_&&_, _||_};
 ghost use Prim.Native.Nat.{ℕ, _+_, _-_, _*_, _<_, _≤_, _^_};
-ghost use lib.ListN.{length};
-ghost use lib.Dec.{leb, ltb};
+ghost use lib.ListN.{length, getD};
+ghost use lib.IntN.{pos};
+ghost use lib.Dec.{leb, ltb, eqb};
 ghost use Rattle.lists.specs.Every.{every};
 ghost use Rattle.maps.specs.Sums.{when};
 ghost use Rattle.consolidate.specs.Windows.{Passed, Slides, Covers};
 ghost use Rattle.hough.specs.Hough.{scale, offset, votes, dist, far, houghSum, houghPeak, peakOffset, farSum, farCount, meanOf, prominence};
 ghost use Rattle.hough.specs.Limits.{before, Bins, binOk, binsOk, answerAt, checkedAnswer};
-ghost use Rattle.hough.specs.Keys.{place, key, nearBy, Summed, FewSums, Ready, Around, atStart, betterOf, moreOf, Ahead, Clear, frameTally};
+ghost use Rattle.hough.specs.Keys.{place, key, nearBy, Summed, FewSums, Ready, Around, atStart, betterOf, moreOf, Ahead, Clear, countAt, frameTally};
 use consolidate::Pass;
 use consolidate::Tally;
 use consolidate::Window;
@@ -28,6 +29,9 @@ const MIDDLE: i64 = 0x100_0000_0000;
 
 // For so few bins, looking at every pair is cheaper than sliding windows.
 const FEW: usize = 32;
+
+// And with so small a tolerance, so is looking at every offset within it.
+const NEAR: u64 = 4;
 
 // The greatest sum, and the first bin that has it.
 pub struct Peak {
@@ -442,7 +446,7 @@ fn next_step(s: &[i64], n: usize, t: Windows, x: u64, most: u64) -> u64
 }
 
 // The tally of bin i's neighbours, merged by offset. Only the offsets that have a bin are visited.
-fn merged_tally(s: &[i64], n: usize, tol: u64, i: usize) -> Tally
+fn slid_tally(s: &[i64], n: usize, tol: u64, i: usize) -> Tally
     requires { ⌜ Bins (now s) n × (tol ≤ 65535) × (i < n) ⌝ }
     ensures { λ r. ⌜ r ≡ frameTally (now (s .entry)) n tol i (2 * tol + 1) ⌝ }
 {
@@ -462,6 +466,65 @@ fn merged_tally(s: &[i64], n: usize, tol: u64, i: usize) -> Tally
         x += next_step(s, n, t, start + x, width - x);
     }
     y
+}
+
+// The count of bin i where it is at place x and within one scale bin of k, else 0.
+fn votes_there(s: &[i64], n: usize, k: u64, x: u64, i: usize) -> u64
+    requires { ⌜ Bins (now s) n × (i < n) ⌝ }
+    ensures { λ r. ⌜ r ≡ when (leb (dist k (scale (now (s .entry)) i)) 1 && eqb (place (now (s .entry)) i) x) (votes (now (s .entry)) i) ⌝ }
+{
+    let scales = abs_diff(k, scale_at(s, n, i));
+    if (scales <= 1) & (place_at(s, n, i) == x) {
+        return votes_at(s, n, i);
+    }
+    0
+}
+
+// The sum of the counts at place x, within one scale bin of k.
+fn direct_at(s: &[i64], n: usize, k: u64, x: u64) -> u64
+    requires { ⌜ Bins (now s) n ⌝ }
+    ensures { λ r. ⌜ r ≡ countAt (now (s .entry)) n k x ⌝ }
+{
+    let mut sum: u64 = 0;
+    let mut j: usize = 0;
+    while j < n {
+        sum += votes_there(s, n, k, x, j);
+        j += 1;
+    }
+    sum
+}
+
+// The same tally, by a look at every bin for every offset within the tolerance.
+fn direct_tally(s: &[i64], n: usize, tol: u64, i: usize) -> Tally
+    requires { ⌜ Bins (now s) n × (tol ≤ 65535) × (i < n) ⌝ }
+    ensures { λ r. ⌜ r ≡ frameTally (now (s .entry)) n tol i (2 * tol + 1) ⌝ }
+{
+    let k = scale_at(s, n, i);
+    let start = place_at(s, n, i) - tol;
+    let low = offset_at(s, n, i) - (tol as i64);
+    let width = 2 * tol + 1;
+    let mut y = Tally {
+        best: 0,
+        count: 0,
+        sum: 0,
+    };
+    let mut x: u64 = 0;
+    while x < width {
+        y = consolidate::tallied(y, direct_at(s, n, k, start + x), low + (x as i64));
+        x += 1;
+    }
+    y
+}
+
+// The tally by whichever way is quicker.
+fn merged_tally(s: &[i64], n: usize, tol: u64, i: usize) -> Tally
+    requires { ⌜ Bins (now s) n × (tol ≤ 65535) × (i < n) ⌝ }
+    ensures { λ r. ⌜ r ≡ frameTally (now (s .entry)) n tol i (2 * tol + 1) ⌝ }
+{
+    if (n <= FEW) & (tol <= NEAR) {
+        return direct_tally(s, n, tol, i);
+    }
+    slid_tally(s, n, tol, i)
 }
 
 // The offset that is reported for a peak at bin i: the mode of its neighbours' counts, merged by

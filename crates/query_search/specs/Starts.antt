@@ -5,9 +5,11 @@ use mathlib.Core.Bool.{true}
 use mathlib.Core.List.{List, map}
 use Prim.Native.Nat.{ℕ, _+_, _*_, _^_, _≤_, _<_}
 use lib.ListN.{length, getD}
+use lib.Dec.{ltb}
 use Rattle.lists.specs.Lists.{sum}
 use Rattle.lists.specs.Keys.{under}
 use Rattle.lists.specs.Entries.{keyAt, keyOf, keysAscend}
+use Rattle.maps.specs.Sums.{when}
 use Rattle.maps.specs.Entries.{firstAt}
 
 -- "starting wherever that key begins": start i is the word at which the first posting stands that has the key of hash i, or one above it
@@ -26,6 +28,11 @@ met es hs = sum (map (λ h. length (under keyOf (keyOf h) es)) hs)
 pub record Zeros (m : ℕ) (starts : List ℕ) : Type 0 where
   pub long : m ≤ length starts
   pub zero : (i : ℕ) → i < m → getD starts i 0 ≡ 0
+
+-- how many of seven pivots are below a key
+unfoldable pub pivotsBelow : (p1 p2 p3 p4 p5 p6 p7 key : ℕ) → ℕ
+pivotsBelow p1 p2 p3 p4 p5 p6 p7 key =
+    when (ltb p1 key) 1 + when (ltb p2 key) 1 + when (ltb p3 key) 1 + when (ltb p4 key) 1 + when (ltb p5 key) 1 + when (ltb p6 key) 1 + when (ltb p7 key) 1
 
 -- the postings under a key begin at one of the `len` postings from `start` on, or just behind them
 pub record Window (ps : List ℕ) (w p key len start : ℕ) : Type 0 where

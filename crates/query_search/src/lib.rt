@@ -1,15 +1,15 @@
 // Where the postings of each query hash begin and end, and how many they are.
 ghost use mathlib.Core.Path.{_≡_};
 ghost use mathlib.Core.Bool.{true, _&&_};
-ghost use Prim.Native.Nat.{_+_, _*_, _-_, _/_, _^_, _≤_, _<_, min};
+ghost use Prim.Native.Nat.{ℕ, _+_, _*_, _-_, _/_, _^_, _≤_, _<_, min};
 ghost use lib.Dec.{eqb, ltb};
 ghost use lib.ListN.{length, getD, drop};
 ghost use Rattle.lists.specs.Lists.{flat};
 ghost use Rattle.lists.specs.Keys.{under};
-ghost use Rattle.lists.specs.Entries.{entries, keyOf, keysAscend};
+ghost use Rattle.lists.specs.Entries.{entries, keyAt, keyOf, keysAscend};
 ghost use Rattle.maps.specs.Sums.{when};
 ghost use Rattle.maps.specs.Entries.{firstAt};
-ghost use Rattle.query_search.specs.Starts.{Starts, Ends, met, Zeros, Windows, Sought};
+ghost use Rattle.query_search.specs.Starts.{Starts, Ends, met, Zeros, Windows, Sought, pivotsBelow};
 
 // `half` where x is below the key, and nothing where not. It has no branch, which would be mispredicted every other time: the upper half of
 // x − key is all ones just where x is below the key.
@@ -79,6 +79,103 @@ fn narrow(
     }
 }
 
+// 1 where x is below the key, and 0 where not.
+fn below(x: u32, key: u32) -> u32
+    ensures { λ r. ⌜ (r ≡ when (ltb x key) 1) × (r ≤ 1) ⌝ }
+{
+    if x < key {
+        return 1;
+    }
+    0
+}
+
+// How many of seven pivots are below a key.
+fn passed(p1: u32, p2: u32, p3: u32, p4: u32, p5: u32, p6: u32, p7: u32, key: u32) -> u32
+    ensures { λ r. ⌜ (r ≡ pivotsBelow p1 p2 p3 p4 p5 p6 p7 key) × (r ≤ 7) ⌝ }
+{
+    below(p1, key)
+        + below(p2, key)
+        + below(p3, key)
+        + below(p4, key)
+        + below(p5, key)
+        + below(p6, key)
+        + below(p7, key)
+}
+
+// The keys of m hashes go to `starts`.
+fn copy_keys(starts: &mut [u32], hashes: &[u32], h: usize, m: usize)
+    requires { ⌜ (m ≤ length (now starts)) × (1 ≤ h) × (h * m ≤ length (now hashes)) ⌝ }
+    ensures { λ _. ⌜ ((i : ℕ) → i < m → getD (now (starts .exit)) i 0 ≡ keyAt (now (hashes .entry)) h i) ⌝ }
+{
+    let mut i = 0;
+    while i < m {
+        starts[i] = maps::key_at(hashes, h, i);
+        i += 1;
+    }
+}
+
+// In place of each of m keys, `size` for every pivot that is below it. The compiler does several keys at a time.
+fn spread(
+    starts: &mut [u32],
+    m: usize,
+    p1: u32,
+    p2: u32,
+    p3: u32,
+    p4: u32,
+    p5: u32,
+    p6: u32,
+    p7: u32,
+    size: u32,
+)
+    requires { ⌜ (m ≤ length (now starts)) × (7 * size < 2 ^ 32) ⌝ }
+    ensures { λ _. ⌜ ((i : ℕ) → i < m → getD (now (starts .exit)) i 0 ≡ pivotsBelow p1 p2 p3 p4 p5 p6 p7 (getD (now (starts .entry)) i 0) * size) ⌝ }
+{
+    let mut i = 0;
+    while i < m {
+        starts[i] = passed(p1, p2, p3, p4, p5, p6, p7, starts[i]) * size;
+        i += 1;
+    }
+}
+
+// Pivot j of the first three levels: the key of the last one of the first j * step postings.
+fn pivot(posts: &[u32], w: usize, step: usize, j: usize) -> u32
+    requires { ⌜ (1 ≤ j * step) × (j * step < 2 ^ 32) × (w * (j * step - 1) < length (now posts)) ⌝ }
+    ensures { λ r. ⌜ r ≡ keyAt (now (posts .entry)) w (j * step - 1) ⌝ }
+{
+    maps::key_at(posts, w, j * step - 1)
+}
+
+// The first three levels of the search look at the same seven postings for all hashes: a hash's window begins behind as many eighths as have a last
+// posting below its key. Yields how many postings a window has. With fewer than eight postings each window has all of them.
+fn first_windows(
+    starts: &mut [u32],
+    posts: &[u32],
+    w: usize,
+    p: usize,
+    hashes: &[u32],
+    h: usize,
+    m: usize,
+) -> u32
+    requires { ⌜ Sought (now posts) w p (now hashes) h m × Zeros m (now starts) ⌝ }
+    ensures { λ r. ⌜ Windows (now (posts .entry)) w p (now (hashes .entry)) h m r (now (starts .exit)) × (r ≤ p) ⌝ }
+{
+    if p < 8 {
+        return p as u32;
+    }
+    let step = p / 8;
+    let size = (w * step) as u32;
+    let p1 = pivot(posts, w, step, 1);
+    let p2 = pivot(posts, w, step, 2);
+    let p3 = pivot(posts, w, step, 3);
+    let p4 = pivot(posts, w, step, 4);
+    let p5 = pivot(posts, w, step, 5);
+    let p6 = pivot(posts, w, step, 6);
+    let p7 = pivot(posts, w, step, 7);
+    copy_keys(starts, hashes, h, m);
+    spread(starts, m, p1, p2, p3, p4, p5, p6, p7, size);
+    (p - 7 * step) as u32
+}
+
 // Where the postings of each of m hashes begin: p postings of w words, hashes of h words.
 pub fn seek(
     starts: &mut [u32],
@@ -92,7 +189,7 @@ pub fn seek(
     requires { ⌜ Sought (now posts) w p (now hashes) h m × Zeros m (now starts) ⌝ }
     ensures { λ _. ⌜ Starts (now (posts .entry)) w p (now (hashes .entry)) h m (now (starts .exit)) ⌝ }
 {
-    let mut len = p as u32;
+    let mut len = first_windows(starts, posts, w, p, hashes, h, m);
     while 0 < len {
         narrow(starts, posts, w, p, hashes, h, m, len);
         len = len / 2 / 2 / 2;

@@ -7,8 +7,8 @@ use Rattle.hough.specs.Keys.{key, Ready, Around, Clear, frameTally}
 use Rattle.hough.proofs.Walking.{ready-none, ready-on}
 use Rattle.hough.proofs.Merging.{frame-close, around-merged, merged-none}
 use Rattle.hough.proofs.Frames.{frames-none, frames-more, frames-gap, frames-small, low-fits, frame-fits, frame-is}
-use Rattle.hough.proofs.merged_tally.Statement.{statement}
-use Rattle.hough.proofs.merged_tally.Tie as tie
+use Rattle.hough.proofs.slid_tally.Statement.{statement}
+use Rattle.hough.proofs.slid_tally.Tie as tie
 
 abbrev Inv-loop : tie.InvT-loop
 Inv-loop s n tol i start low width t₀ y₀ x₀ t y x =
@@ -128,8 +128,8 @@ returns c =
     let z : h .loop .x ≡ 2 * h .before .before .before .before .args .tol + 1 = omega (arith, h .loop .inv .0, c .loop-test .left) in
     rw z at (h .loop .inv .2)
 
-pub merged-tally-spec : {M : Type 1} → statement M
-merged-tally-spec =
+pub slid-tally-spec : {M : Type 1} → statement M
+slid-tally-spec =
     tie.close
     (tie.spec
     Inv-loop
