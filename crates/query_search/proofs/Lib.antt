@@ -3,4 +3,4 @@ pub mod Steps
 pub mod Levels
 pub mod Meeting
 pub mod Walks
-pub mod Pivots
+pub mod Eighths

@@ -11,6 +11,7 @@ use Rattle.lists.specs.Keys.{under}
 use Rattle.lists.specs.Entries.{keyAt, keyOf, keysAscend}
 use Rattle.maps.specs.Sums.{when}
 use Rattle.maps.specs.Entries.{firstAt}
+use Rattle.query_search.specs.declared.Pivots.{Pivots}
 
 -- "starting wherever that key begins": start i is the word at which the first posting stands that has the key of hash i, or one above it
 pub record Starts (ps : List ℕ) (w p : ℕ) (hs : List ℕ) (h m : ℕ) (starts : List ℕ) : Type 0 where
@@ -29,10 +30,10 @@ pub record Zeros (m : ℕ) (starts : List ℕ) : Type 0 where
   pub long : m ≤ length starts
   pub zero : (i : ℕ) → i < m → getD starts i 0 ≡ 0
 
--- how many of seven pivots are below a key
-unfoldable pub pivotsBelow : (p1 p2 p3 p4 p5 p6 p7 key : ℕ) → ℕ
-pivotsBelow p1 p2 p3 p4 p5 p6 p7 key =
-    when (ltb p1 key) 1 + when (ltb p2 key) 1 + when (ltb p3 key) 1 + when (ltb p4 key) 1 + when (ltb p5 key) 1 + when (ltb p6 key) 1 + when (ltb p7 key) 1
+-- how many of the pivots are below a key
+unfoldable pub pivotsBelow : Pivots → ℕ → ℕ
+pivotsBelow p key =
+    when (ltb (p .p1) key) 1 + when (ltb (p .p2) key) 1 + when (ltb (p .p3) key) 1 + when (ltb (p .p4) key) 1 + when (ltb (p .p5) key) 1 + when (ltb (p .p6) key) 1 + when (ltb (p .p7) key) 1
 
 -- the postings under a key begin at one of the `len` postings from `start` on, or just behind them
 pub record Window (ps : List ℕ) (w p key len start : ℕ) : Type 0 where

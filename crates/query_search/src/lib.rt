@@ -89,17 +89,28 @@ fn below(x: u32, key: u32) -> u32
     0
 }
 
-// How many of seven pivots are below a key.
-fn passed(p1: u32, p2: u32, p3: u32, p4: u32, p5: u32, p6: u32, p7: u32, key: u32) -> u32
-    ensures { λ r. ⌜ (r ≡ pivotsBelow p1 p2 p3 p4 p5 p6 p7 key) × (r ≤ 7) ⌝ }
+// The keys that end the first seven eighths of the postings.
+pub struct Pivots {
+    pub p1: u32,
+    pub p2: u32,
+    pub p3: u32,
+    pub p4: u32,
+    pub p5: u32,
+    pub p6: u32,
+    pub p7: u32,
+}
+
+// How many of the pivots are below a key.
+fn passed(p: Pivots, key: u32) -> u32
+    ensures { λ r. ⌜ (r ≡ pivotsBelow p key) × (r ≤ 7) ⌝ }
 {
-    below(p1, key)
-        + below(p2, key)
-        + below(p3, key)
-        + below(p4, key)
-        + below(p5, key)
-        + below(p6, key)
-        + below(p7, key)
+    below(p.p1, key)
+        + below(p.p2, key)
+        + below(p.p3, key)
+        + below(p.p4, key)
+        + below(p.p5, key)
+        + below(p.p6, key)
+        + below(p.p7, key)
 }
 
 // The keys of m hashes go to `starts`.
@@ -115,24 +126,13 @@ fn copy_keys(starts: &mut [u32], hashes: &[u32], h: usize, m: usize)
 }
 
 // In place of each of m keys, `size` for every pivot that is below it. The compiler does several keys at a time.
-fn spread(
-    starts: &mut [u32],
-    m: usize,
-    p1: u32,
-    p2: u32,
-    p3: u32,
-    p4: u32,
-    p5: u32,
-    p6: u32,
-    p7: u32,
-    size: u32,
-)
+fn spread(starts: &mut [u32], m: usize, p: Pivots, size: u32)
     requires { ⌜ (m ≤ length (now starts)) × (7 * size < 2 ^ 32) ⌝ }
-    ensures { λ _. ⌜ ((i : ℕ) → i < m → getD (now (starts .exit)) i 0 ≡ pivotsBelow p1 p2 p3 p4 p5 p6 p7 (getD (now (starts .entry)) i 0) * size) ⌝ }
+    ensures { λ _. ⌜ ((i : ℕ) → i < m → getD (now (starts .exit)) i 0 ≡ pivotsBelow p (getD (now (starts .entry)) i 0) * size) ⌝ }
 {
     let mut i = 0;
     while i < m {
-        starts[i] = passed(p1, p2, p3, p4, p5, p6, p7, starts[i]) * size;
+        starts[i] = passed(p, starts[i]) * size;
         i += 1;
     }
 }
@@ -164,15 +164,17 @@ fn first_windows(
     }
     let step = p / 8;
     let size = (w * step) as u32;
-    let p1 = pivot(posts, w, step, 1);
-    let p2 = pivot(posts, w, step, 2);
-    let p3 = pivot(posts, w, step, 3);
-    let p4 = pivot(posts, w, step, 4);
-    let p5 = pivot(posts, w, step, 5);
-    let p6 = pivot(posts, w, step, 6);
-    let p7 = pivot(posts, w, step, 7);
+    let pivots = Pivots {
+        p1: pivot(posts, w, step, 1),
+        p2: pivot(posts, w, step, 2),
+        p3: pivot(posts, w, step, 3),
+        p4: pivot(posts, w, step, 4),
+        p5: pivot(posts, w, step, 5),
+        p6: pivot(posts, w, step, 6),
+        p7: pivot(posts, w, step, 7),
+    };
     copy_keys(starts, hashes, h, m);
-    spread(starts, m, p1, p2, p3, p4, p5, p6, p7, size);
+    spread(starts, m, pivots, size);
     (p - 7 * step) as u32
 }
 

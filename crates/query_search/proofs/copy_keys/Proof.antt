@@ -4,7 +4,7 @@ use native.Mathlib.Omega.{arith}
 use borrow.Author.Needs.{needs}
 use Rattle.lists.specs.Entries.{keyAt}
 use Rattle.lists.proofs.Entries.{stride}
-use Rattle.query_search.proofs.Pivots.{Filled, filled-none, filled-more}
+use Rattle.query_search.proofs.Eighths.{Filled, filled-none, filled-more}
 use Rattle.query_search.proofs.copy_keys.Statement.{statement}
 use Rattle.query_search.proofs.copy_keys.Tie as tie
 

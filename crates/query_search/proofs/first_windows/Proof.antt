@@ -6,7 +6,7 @@ use lib.ListN.{length}
 use borrow.Author.Needs.{needs}
 use Rattle.query_search.proofs.Steps.{few-entries, few-words}
 use Rattle.query_search.proofs.Levels.{windows-all}
-use Rattle.query_search.proofs.Pivots.{windows-spread, pivot-there, sevenfold-few}
+use Rattle.query_search.proofs.Eighths.{windows-spread, pivot-there, sevenfold-few}
 use Rattle.query_search.proofs.first_windows.Statement.{statement}
 use Rattle.query_search.proofs.first_windows.Tie as tie
 
@@ -97,7 +97,7 @@ returns-2 c =
     let o = s (large t) in
     let a = o .args in
     let k = pivots t in (
-      windows-spread (a .posts .now) (a .w) (a .p) (a .hashes .now) (a .h) (a .m) (a .p / 8) _ _ _ _ _ _ _ _ _ (keys t .copy-keys .last .0) _
+      windows-spread (a .posts .now) (a .w) (a .p) (a .hashes .now) (a .h) (a .m) (a .p / 8) _ _ _ (keys t .copy-keys .last .0) _
           (o .pre .0) (omega (arith, large t .if1 .left)) (omega arith) (omega arith)
           (omega (arith, o .pre .1 .long, keys t .copy-keys .kept .0, c .before .before .spread .kept .0)) refl
           (k .before .before .before .before .before .before .pivot .ensures)

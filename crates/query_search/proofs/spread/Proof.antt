@@ -6,15 +6,15 @@ use native.Mathlib.Omega.{arith}
 use lib.ListN.{length, getD}
 use borrow.Author.Needs.{needs}
 use Rattle.query_search.specs.Starts.{pivotsBelow}
-use Rattle.query_search.proofs.Pivots.{Filled, filled-none, filled-more}
+use Rattle.query_search.proofs.Eighths.{Filled, filled-none, filled-more}
 use Rattle.query_search.proofs.spread.Statement.{statement}
 use Rattle.query_search.proofs.spread.Tie as tie
 
 abbrev Inv-loop : tie.InvT-loop
-Inv-loop starts₀ m p1 p2 p3 p4 p5 p6 p7 size i₀ starts i = Filled (λ j. pivotsBelow p1 p2 p3 p4 p5 p6 p7 (getD starts₀ j 0) * size) starts₀ starts i × (i ≤ m)
+Inv-loop starts₀ m p size i₀ starts i = Filled (λ j. pivotsBelow p (getD starts₀ j 0) * size) starts₀ starts i × (i ≤ m)
 
 abbrev μ-loop : tie.MeasureT-loop
-μ-loop starts₀ m p1 p2 p3 p4 p5 p6 p7 size i₀ starts i = m - i
+μ-loop starts₀ m p size i₀ starts i = m - i
 
 loop-holds : tie.Need-loop-holds Inv-loop μ-loop
 loop-holds c = (filled-none _ _, omega arith)
@@ -58,7 +58,7 @@ loop-again c =
     let a = c .before .before .before .before .before .args in
     let l = c .before .before .before .loop in
     let key = l .inv .0 .rest (l .i) (omega arith) in
-    let e = c .passed .ensures .0 ∙ ap (λ (k : ℕ). pivotsBelow (a .p1) (a .p2) (a .p3) (a .p4) (a .p5) (a .p6) (a .p7) k) key in
+    let e = c .passed .ensures .0 ∙ ap (λ (k : ℕ). pivotsBelow (a .p) k) key in
     (filled-more _ _ (l .starts) (l .i) _ (l .inv .0) (there c) (ap (λ (n : ℕ). n * a .size) e), omega (arith, c .before .before .loop-test .taken))
 
 same-length : tie.Need-same-length Inv-loop μ-loop

@@ -18,6 +18,7 @@ use Rattle.maps.specs.Sums.{when}
 use Rattle.maps.specs.Entries.{firstAt}
 use Rattle.maps.proofs.Entries.{first-splits, first-after, first-upto}
 use Rattle.query_search.specs.Starts.{pivotsBelow, Window, Placed, Windows, Sought}
+use Rattle.query_search.specs.declared.Pivots.{Pivots}
 use Rattle.query_search.proofs.Steps.{few-entries, few-words}
 
 -- ---- the first i elements are those of f, and the others as they were
@@ -86,8 +87,11 @@ module _ (ps : List ℕ) (w p key step : ℕ) (t : keysAscend ps w p ≡ true) (
   abbrev pivotAt : ℕ → ℕ
   pivotAt j = keyAt ps w (j * step - 1)
 
+  abbrev pivotsAt : Pivots
+  pivotsAt = record { p1 = pivotAt 1; p2 = pivotAt 2; p3 = pivotAt 3; p4 = pivotAt 4; p5 = pivotAt 5; p6 = pivotAt 6; p7 = pivotAt 7 }
+
   abbrev below-all : ℕ
-  below-all = pivotsBelow (pivotAt 1) (pivotAt 2) (pivotAt 3) (pivotAt 4) (pivotAt 5) (pivotAt 6) (pivotAt 7) key
+  below-all = pivotsBelow pivotsAt key
 
   behind-all : 7 * step ≤ p → Behind first step (7 * step) (below-all * step)
   unfolding pivotsBelow
@@ -116,21 +120,34 @@ module _ (ps : List ℕ) (w p key step : ℕ) (t : keysAscend ps w p ≡ true) (
   }
 
 -- the windows of all hashes, their keys having been put in place of the starts
-pub windows-spread : (ps : List ℕ) (w p : ℕ) (hs : List ℕ) (h m step len size p1 p2 p3 p4 p5 p6 p7 : ℕ) (keys starts : List ℕ)
+pub windows-spread : (ps : List ℕ) (w p : ℕ) (hs : List ℕ) (h m step len size : ℕ) (q : Pivots) (keys starts : List ℕ)
     → Sought ps w p hs h m → 1 ≤ step → 7 * step + len ≡ p → step ≤ len → m ≤ length starts → size ≡ w * step
-    → p1 ≡ keyAt ps w (1 * step - 1) → p2 ≡ keyAt ps w (2 * step - 1) → p3 ≡ keyAt ps w (3 * step - 1) → p4 ≡ keyAt ps w (4 * step - 1)
-    → p5 ≡ keyAt ps w (5 * step - 1) → p6 ≡ keyAt ps w (6 * step - 1) → p7 ≡ keyAt ps w (7 * step - 1)
+    → q .p1 ≡ keyAt ps w (1 * step - 1) → q .p2 ≡ keyAt ps w (2 * step - 1) → q .p3 ≡ keyAt ps w (3 * step - 1) → q .p4 ≡ keyAt ps w (4 * step - 1)
+    → q .p5 ≡ keyAt ps w (5 * step - 1) → q .p6 ≡ keyAt ps w (6 * step - 1) → q .p7 ≡ keyAt ps w (7 * step - 1)
     → ((i : ℕ) → i < m → getD keys i 0 ≡ keyAt hs h i)
-    → ((i : ℕ) → i < m → getD starts i 0 ≡ pivotsBelow p1 p2 p3 p4 p5 p6 p7 (getD keys i 0) * size)
+    → ((i : ℕ) → i < m → getD starts i 0 ≡ pivotsBelow q (getD keys i 0) * size)
     → Windows ps w p hs h m len starts
-windows-spread ps w p hs h m step len size p1 p2 p3 p4 p5 p6 p7 keys starts S some el l long es e1 e2 e3 e4 e5 e6 e7 ks fs = record {
+windows-spread ps w p hs h m step len size q keys starts S some el l long es e1 e2 e3 e4 e5 e6 e7 ks fs = record {
   long = long;
   each = λ i k. placed-behind ps w p (keyAt hs h i) step (S .ascend) some len (getD starts i 0) el l (at i (ks i k) (fs i k));
 }
   where
-    at : (i : ℕ) → getD keys i 0 ≡ keyAt hs h i → getD starts i 0 ≡ pivotsBelow p1 p2 p3 p4 p5 p6 p7 (getD keys i 0) * size
-        → getD starts i 0 ≡ pivotsBelow (keyAt ps w (1 * step - 1)) (keyAt ps w (2 * step - 1)) (keyAt ps w (3 * step - 1)) (keyAt ps w (4 * step - 1)) (keyAt ps w (5 * step - 1)) (keyAt ps w (6 * step - 1)) (keyAt ps w (7 * step - 1)) (keyAt hs h i) * (w * step)
-    at i a b = cc
+    stated : Pivots
+    stated = record {
+      p1 = keyAt ps w (1 * step - 1);
+      p2 = keyAt ps w (2 * step - 1);
+      p3 = keyAt ps w (3 * step - 1);
+      p4 = keyAt ps w (4 * step - 1);
+      p5 = keyAt ps w (5 * step - 1);
+      p6 = keyAt ps w (6 * step - 1);
+      p7 = keyAt ps w (7 * step - 1);
+    }
+
+    same : q ≡ stated
+    same = λ i. record { p1 = e1 i; p2 = e2 i; p3 = e3 i; p4 = e4 i; p5 = e5 i; p6 = e6 i; p7 = e7 i }
+
+    at : (i : ℕ) → getD keys i 0 ≡ keyAt hs h i → getD starts i 0 ≡ pivotsBelow q (getD keys i 0) * size → getD starts i 0 ≡ pivotsBelow stated (keyAt hs h i) * (w * step)
+    at i a b = b ∙ ap (λ (k : ℕ). pivotsBelow q k * size) a ∙ ap (λ (r : Pivots). pivotsBelow r (keyAt hs h i) * size) same ∙ ap (λ (z : ℕ). pivotsBelow stated (keyAt hs h i) * z) es
 
 -- ---- what is read is there, and numbers stay small
 module _ (ps : List ℕ) (w p : ℕ) (hs : List ℕ) (h m : ℕ) (S : Sought ps w p hs h m) where
