@@ -19,7 +19,7 @@ use Rattle.sheet_records.specs.Step.{stepOf}
 use Rattle.sheet_card.specs.declared.Progress.{Progress}
 use Rattle.sheet_card.specs.Ends.{header, endLine, faultLine}
 use Rattle.sheet_card.specs.Sheet.{Card, faulty, ended, preceded, lengthAt, recordAt, whole, recordsFrom, linesOf, lastLine, sheetOn, emptyStore, sheetOf}
-use Rattle.sheet_card.specs.Turns.{Outcome, last, taken, halted, advanced, turnOf, bodyLength, readOf, versionFits, limit, goesOn, startLines, started, turnLines, printed}
+use Rattle.sheet_card.specs.Turns.{Outcome, last, taken, halted, advanced, turnOf, bodyLength, readOf, versionFits, limit, goesOn, startLine, started, turnLines, printed}
 use Rattle.sheet_card.proofs.Reading.{Whole, whole-none, whole-is, is-whole, body-fits, record-some, record-short}
 use Rattle.sheet_card.proofs.Turns.{turn-end, turn-fault, turn-record}
 
@@ -51,7 +51,7 @@ whole-less s w =
     record { begins = omega arith; reaches = omega arith; good = kind-take j s (omega arith) ∙ w .good }
 
 -- a whole record is read whole
-read-whole : (s : List ℕ) → Whole s → readOf s ≡ take (4 + lengthAt s) s
+pub read-whole : (s : List ℕ) → Whole s → readOf s ≡ take (4 + lengthAt s) s
 read-whole s w =
     let l : 4 ≤ length (take 4 s) = omega (arith, length-take 4 s, w .begins) in
     let b = body-fits (take 4 s) (lengthAt s) (sym (length-at-take 4 s (omega arith))) l (record-short s w) in
@@ -95,12 +95,12 @@ turn-read m p s = test (whole s) (λ h. same (whole-is s h)) (λ h. test (eqb (l
 
 -- ---- turn after turn
 
-halted-lines : (k : ℕ) (m : Words) (p : Progress) (s : List ℕ) → goesOn p ≡ false → turnLines k m p s ≡ []
+pub halted-lines : (k : ℕ) (m : Words) (p : Progress) (s : List ℕ) → goesOn p ≡ false → turnLines k m p s ≡ []
 unfolding turnLines
 halted-lines zero m p s h = refl
 halted-lines (suc k) m p s h = rw h
 
-one-turn : (k : ℕ) (m : Words) (p : Progress) (s : List ℕ) (o : Outcome) → goesOn p ≡ true → turnOf m p s ≡ o
+pub one-turn : (k : ℕ) (m : Words) (p : Progress) (s : List ℕ) (o : Outcome) → goesOn p ≡ true → turnOf m p s ≡ o
     → turnLines (suc k) m p s ≡ o .line ++ turnLines k (o .store) (o .next) (drop (length (readOf s)) s)
 unfolding turnLines
 one-turn k m p s o g e = rw g (ap (λ (x : Outcome). x .line ++ turnLines k (x .store) (x .next) (drop (length (readOf s)) s)) (turn-read m p s ∙ e))
@@ -190,21 +190,22 @@ turns-are (suc k) m p s h l g =
 
 -- ---- the whole sheet
 
-wrong-version : (m : Words) (k : ℕ) (s : List ℕ) → startLines false ++ turnLines k m (started false) s ≡ header ++ faultLine 0
-wrong-version m k s = ap (λ (l : List ℕ). startLines false ++ l) (halted-lines k m (started false) s refl) ∙ append-nil (startLines false)
+wrong-version : (m : Words) (k : ℕ) (s : List ℕ) → startLine false ++ turnLines k m (started false) s ≡ faultLine 0
+wrong-version m k s = ap (λ (l : List ℕ). faultLine 0 ++ l) (halted-lines k m (started false) s refl) ∙ append-nil (faultLine 0)
 
 by-version : (m : Words) (s : List ℕ) (fits : Bool) → 1 + length s < limit
-    → startLines fits ++ turnLines (suc (length s)) m (started fits) s ≡ header ++ rest m 0 (cond fits (recordsFrom (length s) 1 s) (faulty 0))
+    → startLine fits ++ turnLines (suc (length s)) m (started fits) s ≡ rest m 0 (cond fits (recordsFrom (length s) 1 s) (faulty 0))
 unfolding linesOf
-by-version m s true l = ap (λ (x : List ℕ). header ++ x) (turns-are (length s) m (started true) s (omega arith) l refl)
+by-version m s true l = turns-are (length s) m (started true) s (omega arith) l refl
 by-version m s false l = wrong-version m (suc (length s)) s
 
 -- what the program prints, turn by turn, is the sheet of the card
 pub printed-is : (m : Words) (s : List ℕ) → length s < limit → printed m s ≡ sheetOn m s
 unfolding versionFits linesOf
-printed-is m [] l = wrong-version m 0 []
+printed-is m [] l = ap (λ (x : List ℕ). header ++ x) (wrong-version m 0 [])
 printed-is m (v ∷ s) l =
-    by-version m s (eqb v 1) (omega arith) ∙ ap (λ (x : List ℕ). header ++ x) (rest-all m (cond (eqb v 1) (recordsFrom (length s) 1 s) (faulty 0)))
+    ap (λ (x : List ℕ). header ++ x)
+    (by-version m s (eqb v 1) (omega arith) ∙ rest-all m (cond (eqb v 1) (recordsFrom (length s) 1 s) (faulty 0)))
 
 pub printed-sheet : (s : List ℕ) → length s < limit → printed emptyStore s ≡ sheetOf s
 unfolding sheetOf

@@ -11,21 +11,21 @@ use Rattle.lists.specs.Lists.{none?}
 use Rattle.lists.proofs.Tests.{test, and-left, and-right}
 use Rattle.model.specs.Words.{Words}
 use Rattle.sheet_text.specs.Put.{Put}
-use Rattle.sheet_text.proofs.Puts.{join, as-text}
+use Rattle.sheet_text.proofs.Puts.{nothing, as-text}
 use Rattle.sheet_card.specs.declared.Progress.{Progress}
-use Rattle.sheet_card.specs.Ends.{header, endLine, faultLine}
+use Rattle.sheet_card.specs.Ends.{endLine, faultLine}
 use Rattle.sheet_card.specs.Sheet.{lengthAt, whole}
-use Rattle.sheet_card.specs.Turns.{halted, advanced, last, taken, lastOf, turnOf, versionFits, limit, goesOn, startLines, started}
+use Rattle.sheet_card.specs.Turns.{halted, advanced, last, taken, lastOf, turnOf, versionFits, limit, goesOn, startLine, started}
 use Rattle.sheet_card.proofs.Reading.{whole-none}
 
 -- ---- the beginning
 
-module _ (v : List ℕ) {l k : List ℕ} {a : ℕ} (put : Put l k 0 a header) where
-  pub begun : versionFits v ≡ true → Put l k 0 a (startLines (versionFits v))
-  begun e = as-text put (ap startLines (sym e))
+module _ (v : List ℕ) {l : List ℕ} {a : ℕ} where
+  pub begun : versionFits v ≡ true → Put l l a a (startLine (versionFits v))
+  begun e = as-text (nothing l a) (ap startLine (sym e))
 
-  pub begun-wrong : {n : List ℕ} {b : ℕ} → versionFits v ≡ false → Put k n a b (faultLine 0) → Put l n 0 b (startLines (versionFits v))
-  begun-wrong e q = as-text (join put q) (ap startLines (sym e))
+  pub begun-wrong : {k : List ℕ} {b : ℕ} → versionFits v ≡ false → Put l k a b (faultLine 0) → Put l k a b (startLine (versionFits v))
+  begun-wrong e q = as-text q (ap startLine (sym e))
 
 -- ---- a turn
 
@@ -81,7 +81,7 @@ module _ (m : Words) (p : Progress) (s : List ℕ) (h : p .records ≤ p .offset
   goes : flag (p .more) ≡ 1
   goes = ap flag (and-left (p .more) (ltb (p .offset) limit) g)
 
-  next-halted : Next p (halted p)
+  pub next-halted : Next p (halted p)
   next-halted = record { counts = h; less = omega (arith, goes) }
 
   next-advanced : (n : ℕ) → Next p (advanced p n)

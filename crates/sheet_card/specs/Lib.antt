@@ -2,5 +2,6 @@
 pub mod Ends
 pub mod Sheet
 pub mod Turns
+pub mod Held
 pub mod Lines
 pub mod Examples

@@ -65,9 +65,9 @@ limit = 2 ^ 63
 abbrev pub goesOn : Progress → Bool
 goesOn p = p .more && ltb (p .offset) limit
 
--- by what was read of the version byte: the header and, where the version is wrong, a fault's line
-abbrev pub startLines : Bool → List ℕ
-startLines fits = header ++ cond fits [] (faultLine 0)
+-- by what was read of the version byte: a fault's line where the version is wrong
+abbrev pub startLine : Bool → List ℕ
+startLine fits = cond fits [] (faultLine 0)
 
 abbrev pub started : Bool → Progress
 started fits = record { records = 0; offset = 1; more = fits }
@@ -83,4 +83,4 @@ turnLines (suc turns) m p s =
 abbrev pub printed : Words → List ℕ → List ℕ
 printed m s =
     let fits = versionFits (take 1 s) in
-    startLines fits ++ turnLines (length s) m (started fits) (drop 1 s)
+    header ++ (startLine fits ++ turnLines (length s) m (started fits) (drop 1 s))

@@ -1,14 +1,17 @@
-// A whole card. specs/Sheet.antt says what it means, specs/Turns.antt how the program goes through it; proofs/Turns.antt shows that the two are the
-// same. Here is all that the program decides: how much is read, the line of each turn, and whether the card goes on.
+// A whole card. specs/Sheet.antt says what it means, specs/Turns.antt how it is gone through turn by turn; proofs/Printed.antt shows that the two are
+// the same. Here is all that the program decides: how much is read, the line of each turn, and whether the card goes on; and the whole sheet of a card
+// that is held in memory.
 ghost use mathlib.Core.Path.{_≡_};
+ghost use mathlib.Core.Bool.{false};
 ghost use Prim.Native.Nat.{_+_, _*_, _≤_, _<_};
 ghost use lib.ListN.{length};
 ghost use Rattle.soundness.specs.Scan.{lent};
 ghost use Rattle.sheet_text.specs.Put.{lineMost, Put};
 ghost use Rattle.sheet_kinds.specs.Kinds.{zeroScratch};
 ghost use Rattle.sheet_card.specs.Ends.{header, endLine, faultLine};
-ghost use Rattle.sheet_card.specs.Sheet.{lengthAt, whole};
-ghost use Rattle.sheet_card.specs.Turns.{halted, advanced, lastOf, turnOf, bodyLength, versionFits, limit, goesOn, startLines, started};
+ghost use Rattle.sheet_card.specs.Sheet.{lengthAt, whole, emptyStore, sheetOf};
+ghost use Rattle.sheet_card.specs.Turns.{halted, advanced, lastOf, turnOf, bodyLength, versionFits, limit, goesOn, startLine, started};
+ghost use Rattle.sheet_card.specs.Held.{Going, remains, sheetRoom, hasRoom, heldSheet};
 
 // How far a card has been read: the records so far, the offset of the next length field, and whether the card goes on.
 pub struct Progress {
@@ -25,12 +28,12 @@ pub struct Turned {
 
 // ---- the sheet's first line and its last
 
-fn put_header(line: &mut [u8], at: usize) -> usize
-    requires { ⌜ at + lineMost ≤ length (now line) ⌝ }
-    ensures { λ r. ⌜ Put (now (line .entry)) (now (line .exit)) at r header ⌝ }
-    ensures { λ r. ⌜ r ≤ at + lineMost ⌝ }
+pub fn put_header(line: &mut [u8]) -> usize
+    requires { ⌜ lineMost ≤ length (now line) ⌝ }
+    ensures { λ r. ⌜ Put (now (line .entry)) (now (line .exit)) 0 r header ⌝ }
+    ensures { λ r. ⌜ r ≤ lineMost ⌝ }
 {
-    sheet_text::put_bytes(line, at, b"sheet 1\n")
+    sheet_text::put_bytes(line, 0, b"sheet 1\n")
 }
 
 fn put_end(line: &mut [u8], at: usize, records: u64) -> usize
@@ -116,7 +119,7 @@ fn version_fits(version: &[u8]) -> bool
 // ---- progress
 
 // Behind the last line.
-fn stop(p: Progress) -> Progress
+pub fn stop(p: Progress) -> Progress
     ensures { λ r. ⌜ r ≡ halted p ⌝ }
 {
     Progress {
@@ -147,11 +150,11 @@ pub fn goes_on(p: Progress) -> bool
 
 // ---- turns
 
-// The beginning of the sheet, by what was read of the version byte: puts the first lines into a lent buffer.
-pub fn begin(version: &[u8], line: &mut [u8]) -> Turned
-    requires { ⌜ 2 * lineMost ≤ length (now line) ⌝ }
-    ensures { λ r. ⌜ Put (now (line .entry)) (now (line .exit)) 0 (r .end) (startLines (versionFits (now (version .entry)))) ⌝ }
-    ensures { λ r. ⌜ r .end ≤ 2 * lineMost ⌝ }
+// The beginning of a card, by what was read of the version byte: where that is wrong, puts a fault's line behind the first `at` bytes of a lent buffer.
+pub fn begin(version: &[u8], line: &mut [u8], at: usize) -> Turned
+    requires { ⌜ at + lineMost ≤ length (now line) ⌝ }
+    ensures { λ r. ⌜ Put (now (line .entry)) (now (line .exit)) at (r .end) (startLine (versionFits (now (version .entry)))) ⌝ }
+    ensures { λ r. ⌜ r .end ≤ at + lineMost ⌝ }
     ensures { λ r. ⌜ r .next ≡ started (versionFits (now (version .entry))) ⌝ }
 {
     let fits = version_fits(version);
@@ -160,12 +163,11 @@ pub fn begin(version: &[u8], line: &mut [u8]) -> Turned
         offset: 1,
         more: fits,
     };
-    let head = put_header(line, 0);
     if fits {
-        return Turned { end: head, next };
+        return Turned { end: at, next };
     }
     Turned {
-        end: put_fault(line, head, 0),
+        end: put_fault(line, at, 0),
         next,
     }
 }
@@ -211,4 +213,107 @@ pub fn turn(
         end,
         next: advance(p, len),
     }
+}
+
+// ---- the buffers
+
+// R 32.
+const REFERENCES: usize = rows::HEAD_WIDTH + 32 * rows::ROW_WIDTH;
+
+pub fn zero_references() -> [u32; REFERENCES]
+    ensures { λ r. ⌜ r ≡ emptyStore .references ⌝ }
+{
+    [0; REFERENCES]
+}
+
+// P 1,024.
+pub fn zero_postings() -> [u32; 3072]
+    ensures { λ r. ⌜ r ≡ emptyStore .postings ⌝ }
+{
+    [0; 3072]
+}
+
+// K 256.
+pub fn zero_stopped() -> [u32; 256]
+    ensures { λ r. ⌜ r ≡ emptyStore .stopped ⌝ }
+{
+    [0; 256]
+}
+
+// Scratch for 512 votes.
+pub fn zero_scratch() -> [i64; 3072]
+    ensures { λ r. ⌜ r ≡ zeroScratch ⌝ }
+{
+    [0; 3072]
+}
+
+// ---- a card that is held in memory
+
+// The lines of the turns that are left of a card, behind the first `at` bytes of a lent buffer. Yields where they end.
+fn put_turns(
+    card: &[u8],
+    refs: &mut [u32],
+    postings: &mut [u32],
+    stopped: &mut [u32],
+    scratch: &mut [i64],
+    out: &mut [u8],
+    at: usize,
+    p: Progress,
+) -> usize
+    requires { ⌜ Going (now card) (now out) p at × (now scratch ≡ zeroScratch) ⌝ }
+    ensures { λ r. ⌜ Put (now (out .entry)) (now (out .exit)) at r (remains (now (card .entry)) (lent (refs .entry) (postings .entry) (stopped .entry)) p) ⌝ }
+{
+    let mut end = at;
+    let mut next = p;
+    while goes_on(next) {
+        let from = next.offset as usize;
+        let t = turn(
+            &card[from..],
+            refs,
+            postings,
+            stopped,
+            scratch,
+            out,
+            end,
+            next,
+        );
+        end = t.end;
+        next = t.next;
+    }
+    end
+}
+
+// Whether a buffer has room for the sheet of any card so long.
+fn has_room(card: &[u8], out: &[u8]) -> bool
+    ensures { λ r. ⌜ r ≡ hasRoom (now (card .entry)) (now (out .entry)) ⌝ }
+{
+    card.len() / 5 + 2 <= out.len() / sheet_text::LINE_MOST
+}
+
+// The sheet of a card, at the beginning of a lent buffer. Yields how many bytes it has: 0, and the buffer is as it was, where there is no room for the
+// longest sheet of so long a card.
+pub fn sheet_of(card: &[u8], out: &mut [u8]) -> usize
+    ensures { λ r. ⌜ Put (now (out .entry)) (now (out .exit)) 0 r (heldSheet (now (card .entry)) (now (out .entry))) ⌝ }
+    ensures { λ r. ⌜ (hasRoom (now (card .entry)) (now (out .entry)) ≡ false → now (out .exit) ≡ now (out .entry)) ⌝ }
+{
+    if !has_room(card, out) {
+        return 0;
+    }
+    let mut refs = zero_references();
+    let mut postings = zero_postings();
+    let mut stopped = zero_stopped();
+    let mut scratch = zero_scratch();
+    let head = put_header(out);
+    let n = maps::smaller(card.len() as u64, 1) as usize;
+    let s = begin(&card[..n], out, head);
+    put_turns(
+        card,
+        &mut refs,
+        &mut postings,
+        &mut stopped,
+        &mut scratch,
+        out,
+        s.end,
+        s.next,
+    )
 }

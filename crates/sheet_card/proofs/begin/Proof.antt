@@ -10,37 +10,24 @@ use Rattle.sheet_card.proofs.begin.Tie as tie
 version-fits-requires : tie.Need-version-fits-requires
 version-fits-requires c κs = search needs
 
-put-header-requires : tie.Need-put-header-requires
-put-header-requires c κs = search needs
-
-same-length : tie.Need-same-length
-same-length c = search needs
-
 returns : tie.Need-returns
 returns c =
-    let v = c .before .before .before .before .before .version-fits .ensures in
-    (begun (now (c .before .before .before .before .before .before .before .before .args .version)) (c .before .before .before .put-header .ensures .0) (sym v ∙ c .if1 .taken), (search needs, ap started v))
+    let v = c .before .version-fits .ensures in
+    (begun (now (c .before .before .before .before .args .version)) (sym v ∙ c .if1 .taken), (search needs, ap started v))
 
 put-fault-requires : tie.Need-put-fault-requires
 put-fault-requires c κs = search needs
 
-same-length-2 : tie.Need-same-length-2
-same-length-2 c = search needs
+same-length : tie.Need-same-length
+same-length c = search needs
 
 returns-2 : tie.Need-returns-2
 returns-2 c =
     let e = c .before .before .before .before in
-    let v = e .before .before .before .before .before .version-fits .ensures in
-    (begun-wrong (now (e .before .before .before .before .before .before .before .before .args .version)) (e .before .before .before .put-header .ensures .0) (sym v ∙ e .if1 .left) (c .before .before .put-fault .ensures .0), (search needs, ap started v))
+    let v = e .before .version-fits .ensures in
+    (begun-wrong (now (e .before .before .before .before .args .version)) (sym v ∙ e .if1 .left) (c .before .before .put-fault .ensures .0), (search needs, ap started v))
 
 pub begin-spec : {M : Type 1} → statement M
 begin-spec =
     tie.close
-    (tie.spec
-    version-fits-requires
-    put-header-requires
-    same-length
-    returns
-    put-fault-requires
-    same-length-2
-    returns-2)
+    (tie.spec version-fits-requires returns put-fault-requires same-length returns-2)

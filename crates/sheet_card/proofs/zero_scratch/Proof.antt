@@ -1,8 +1,8 @@
--- `sheet::zero_scratch` meets its contract. Assumes nothing.
+-- `sheet_card::zero_scratch` meets its contract. Assumes nothing.
 use Rattle.sheet_kinds.specs.Kinds.{zeroScratch}
 use mathlib.Core.Path.{refl}
-use Rattle.sheet.proofs.zero_scratch.Statement.{statement}
-use Rattle.sheet.proofs.zero_scratch.Tie as tie
+use Rattle.sheet_card.proofs.zero_scratch.Statement.{statement}
+use Rattle.sheet_card.proofs.zero_scratch.Tie as tie
 
 returns : tie.Need-returns
 unfolding zeroScratch

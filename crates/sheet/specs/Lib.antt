@@ -1,0 +1,2 @@
+-- The program sheet: what its reads and turns keep to.
+pub mod Reading
