@@ -59,7 +59,7 @@ pub remove-no : (s : Store) (id : ℕ) → isLive (getD (content s .rows) id non
 unfolding removeStep
 remove-no s id e = rw e (outcome-same (refusal (plainTests s)) s (removed false))
 
--- ---- a call is refused exactly if a test of its table holds, and then leaves the store as it was
+-- ---- a refused call: its table has the number, and the store is as it was
 
 -- an accepted call answers no refusal
 no-refusal : (S : Scheme) (z : Sizes) (s : Store) (x : Call S) → Accepted (stepOf S z s x .answer)

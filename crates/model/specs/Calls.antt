@@ -55,7 +55,7 @@ pub data Call (S : Scheme) : Type 0 where
   liveCount : Call S
   query : Query S → Call S
 
--- ── refusals: for each call a table of numbers and tests, in the order in which they are looked at ──
+-- ── refusals: for each call a table of numbers and tests, in the order in which they are looked at (`order` in Refusals) ──
 
 -- "The lowest number that applies is returned."
 abbrev pub refusal : List (ℕ × Bool) → Option ℕ

@@ -1,4 +1,4 @@
--- Refused calls: they alter nothing, and the number is the first that applies. Definitions only. Assumes nothing.
+-- Refused calls: they alter nothing, and the number is the first that applies. Definitions, and computed examples of one. Assumes nothing.
 use mathlib.Core.Path.{_≡_}
 use mathlib.Core.Bool.{Bool, true, false, cond, not, _&&_}
 use mathlib.Core.List.{List, [], _∷_, map}
@@ -26,18 +26,21 @@ pub record AltersNothing (S : Scheme) : Type 0 where
 
 -- ── "The lowest number that applies is returned." ──
 
--- the numbers, in the order in which their tests are looked at
+-- the numbers in the order in which their tests are looked at
 abbrev pub order : List ℕ
 order = 1 ∷ 2 ∷ 3 ∷ 4 ∷ 5 ∷ 6 ∷ 7 ∷ 8 ∷ []
 
--- do numbers follow an order: are they left of it when some are taken out?
+-- do numbers follow an order: are they what is left of it when some are taken out?
 abbrev pub follows : List ℕ → List ℕ → Bool
 follows os [] = true
 follows [] (n ∷ ns) = false
 follows (o ∷ os) (n ∷ ns) = cond (eqb o n) (follows os ns) (follows os (n ∷ ns))
 
--- the numbers of build's table do. A number before its place, one that comes twice, and one that isn't listed don't.
-pub examples : T (follows order (1 ∷ 3 ∷ 5 ∷ 6 ∷ 7 ∷ []) && not (follows order (1 ∷ 3 ∷ 2 ∷ [])) && not (follows order (1 ∷ 2 ∷ 2 ∷ [])) && not (follows order (1 ∷ 9 ∷ [])))
+-- the numbers of build's table do; those of a table with 2 behind 3, with 2 twice, or with a number that isn't listed, don't
+pub examples : T (follows order (1 ∷ 3 ∷ 5 ∷ 6 ∷ 7 ∷ [])
+    && not (follows order (1 ∷ 3 ∷ 2 ∷ []))
+    && not (follows order (1 ∷ 2 ∷ 2 ∷ []))
+    && not (follows order (1 ∷ 9 ∷ [])))
 examples = tt
 
 -- the test of a number in a table: false if it has no row
