@@ -7,11 +7,11 @@ use Prim.Native.Nat.{ℕ, _-_, _≤_}
 use native.Mathlib.Omega.{arith}
 use lib.ListN.{length, getD}
 use Rattle.lists.proofs.Tests.{maybe, or-false-right}
-use Rattle.model.specs.Fingerprints.{Fingerprint, fingerprintOf, fingerprintsOf, malformed, malformedBuild, referenceMost}
+use Rattle.model.specs.Fingerprints.{Fingerprint, fingerprintOf, malformed, referenceMost}
 use Rattle.model.specs.Rows.{Row}
 use Rattle.model.specs.Index.{nextId, newId, isLive, inserted, erased}
 use Rattle.model.specs.Query.{Scheme, Query, Catalog, catalog, tooManyVotes}
-use Rattle.model.specs.Calls.{Sizes, Store, holds, content, isUnlisted, Answer, stored, removed, count, Call, build, insert, remove, liveCount, query, refusal, buildTests, insertTests, plainTests, scratchListed, queryTests, outcome, buildStep, insertStep, removeStep, countStep, queryStep, answerOf, step}
+use Rattle.model.specs.Calls.{Sizes, Store, holds, content, isUnlisted, Answer, stored, removed, count, Call, build, insert, remove, liveCount, query, refusal, insertTests, plainTests, scratchListed, queryTests, outcome, buildStep, insertStep, removeStep, countStep, queryStep, answerOf, stepOf, step}
 use Rattle.model.specs.Sound.{SoundStore}
 use Rattle.model.specs.History.{withRecording, withoutRecording, storedId, withRecordingIf, after, leaves, answers, replay, history, answerFrom}
 use Rattle.model.specs.Claim.{Accepted, KeysKept, OldOrNew, AfterInsert, AfterRemove, ClaimedAt, Demand3, FromHistory}
@@ -40,12 +40,16 @@ module _ (S : Scheme) (z : Sizes) (w2 : 2 ≤ S .width) where
 
   -- ---- an accepted query
 
-  accepted : (s : Store) (q : Query S) → Accepted (queryStep S s q .0) → refusal (queryTests S s q) ≡ none
+  -- what a query answers
+  abbrev reply : Store → Query S → Answer
+  reply s q = step S z s (query q) .0
+
+  accepted : (s : Store) (q : Query S) → Accepted (step S z s (query q) .0) → refusal (queryTests S s q) ≡ none
   unfolding queryStep
   accepted s q h = maybe (refusal (queryTests S s q)) (λ e. e) (λ n e. absurd (h n (rw e)))
 
   -- the store's answer is the catalog's
-  answered : (s : Store) (c : Catalog) → Inv w z s c → (q : Query S) → refusal (queryTests S s q) ≡ none → queryStep S s q .0 ≡ found S q c
+  answered : (s : Store) (c : Catalog) → Inv w z s c → (q : Query S) → refusal (queryTests S s q) ≡ none → step S z s (query q) .0 ≡ found S q c
   unfolding queryStep
   answered s c I q e = rw e (ap answerOf (best-same S (I .agrees) q))
 
@@ -69,7 +73,7 @@ module _ (S : Scheme) (z : Sizes) (w2 : 2 ≤ S .width) where
 
   after-insert : (s : Store) (c : Catalog) → Inv w z s c → (limit : ℕ) (f : Fingerprint)
       → Inv w z (holds (inserted w limit f (content s))) (withRecording w limit f (newId (content s)) c)
-      → AfterInsert S (λ q. queryStep S s q .0) (λ q. queryStep S (holds (inserted w limit f (content s))) q .0) c (withRecording w limit f (newId (content s)) c) (newId (content s))
+      → AfterInsert S (reply s) (reply (holds (inserted w limit f (content s)))) c (withRecording w limit f (newId (content s)) c) (newId (content s))
   after-insert s c I limit f J kept q h k =
       let t : Store = holds (inserted w limit f (content s)) in
       rw (answered s c I q (accepted s q h), answered t (withRecording w limit f (newId (content s)) c) J q (accepted t q k))
@@ -77,7 +81,7 @@ module _ (S : Scheme) (z : Sizes) (w2 : 2 ≤ S .width) where
 
   at-insert : (s : Store) (c : Catalog) → Inv w z s c → (bad : Bool) (limit : ℕ) (f : Fingerprint) → WideHashes w (f .hashes) → (o : Option ℕ) → refusal (insertTests z s bad limit f) ≡ o → (id : ℕ)
       → outcome o s (stored (newId (content s))) (holds (inserted w limit f (content s))) .0 ≡ stored id
-      → AfterInsert S (λ q. queryStep S s q .0) (λ q. queryStep S (outcome o s (stored (newId (content s))) (holds (inserted w limit f (content s))) .1) q .0) c
+      → AfterInsert S (reply s) (reply (outcome o s (stored (newId (content s))) (holds (inserted w limit f (content s))) .1)) c
       (withRecordingIf w limit f (storedId (outcome o s (stored (newId (content s))) (holds (inserted w limit f (content s))) .0)) c) id
   at-insert s c I bad limit f wide (some n) g id e = let m : _≡_ {A = ℕ} 0 1 = cc in absurd (omega arith)
   at-insert s c I bad limit f wide none g id e =
@@ -94,13 +98,13 @@ module _ (S : Scheme) (z : Sizes) (w2 : 2 ≤ S .width) where
       not-refused (queryTests S (holds (erased id (content s))) q) (or-false-right (isUnlisted s) (not (scratchListed (S .voteWords) (q .scratch))) (t 1), (refl, (t 3, (t 4, (many (t 8), tt)))))
 
   after-remove : (s : Store) (c : Catalog) → Inv w z s c → (id : ℕ) → isLive (getD (content s .rows) id none) ≡ true
-      → AfterRemove S (λ q. queryStep S s q .0) (λ q. queryStep S (holds (erased id (content s))) q .0) id
+      → AfterRemove S (reply s) (reply (holds (erased id (content s)))) id
   after-remove s c I id p q h k = (λ n g. h n (sym same ∙ g), same)
     where
       J : Inv w z (holds (erased id (content s))) (withoutRecording id c)
       J = inv-erased w z w2 s c I id p
 
-      old : queryStep S s q .0 ≡ found S q c
+      old : reply s q ≡ found S q c
       old = answered s c I q (accepted s q h)
 
       many : tooManyVotes S q (catalog (content s)) ≡ false → tooManyVotes S q (catalog (erased id (content s))) ≡ false
@@ -109,12 +113,12 @@ module _ (S : Scheme) (z : Sizes) (w2 : 2 ≤ S .width) where
       again : refusal (queryTests S (holds (erased id (content s))) q) ≡ none
       again = tests-again s id q many (accepted s q h)
 
-      same : queryStep S (holds (erased id (content s))) q .0 ≡ queryStep S s q .0
+      same : reply (holds (erased id (content s))) q ≡ reply s q
       same = answered (holds (erased id (content s))) (withoutRecording id c) J q again ∙ found-without S q c id (λ r g. k r (old ∙ g)) ∙ sym old
 
   at-remove : (s : Store) (c : Catalog) → Inv w z s c → (id : ℕ) (o : Option ℕ) (live : Bool) → isLive (getD (content s .rows) id none) ≡ live
       → outcome o s (removed live) (cond live (holds (erased id (content s))) s) .0 ≡ removed true
-      → AfterRemove S (λ q. queryStep S s q .0) (λ q. queryStep S (outcome o s (removed live) (cond live (holds (erased id (content s))) s) .1) q .0) id
+      → AfterRemove S (reply s) (reply (outcome o s (removed live) (cond live (holds (erased id (content s))) s) .1)) id
   at-remove s c I id (some n) live p e = let m : _≡_ {A = ℕ} 0 1 = cc in absurd (omega arith)
   at-remove s c I id none false p e = let m : _≡_ {A = ℕ} 0 1 = cc in absurd (omega arith)
   at-remove s c I id none true p e = after-remove s c I id p
@@ -122,7 +126,7 @@ module _ (S : Scheme) (z : Sizes) (w2 : 2 ≤ S .width) where
   -- ---- wherever in the list
 
   at : (s : Store) (c : Catalog) → Inv w z s c → (x : Call S)
-      → ClaimedAt S (λ q. queryStep S s q .0) (λ q. queryStep S (step S z s x .1) q .0) c (after S c x (step S z s x .0)) (step S z s x .0) x
+      → ClaimedAt S (reply s) (reply (step S z s x .1)) c (after S c x (step S z s x .0)) (step S z s x .0) x
   unfolding insertStep removeStep after
   at s c I (insert limit rate words) =
       at-insert s c I (malformed w referenceMost words) limit (fingerprintOf w rate words) (wide-hashes w w2 words)
@@ -144,17 +148,16 @@ module _ (S : Scheme) (z : Sizes) (w2 : 2 ≤ S .width) where
   stays-sound s h calls = sound-store w z (leaves S (step S z) s calls) (calls-inv S z w2 s (catalog (content s)) (start-inv w z w2 s h) calls .sound)
 
   -- an accepted call answers what the catalog says
-  from-catalog : (s : Store) (c : Catalog) → Inv w z s c → (x : Call S) → Accepted (step S z s x .0) → step S z s x .0 ≡ answerFrom S c x
+  told : (s : Store) (c : Catalog) → Inv w z s c → (x : Call S) → stepOf S z s x .answer ≡ answerFrom S c x
   unfolding buildStep insertStep removeStep countStep queryStep
-  from-catalog s c I (build limit words lengths rates) h = maybe (refusal (buildTests z s (malformedBuild w words lengths rates) limit (fingerprintsOf w words lengths rates))) (λ e. rw e) (λ n e. absurd (h n (rw e)))
-  from-catalog s c I (insert limit rate words) h = maybe (refusal (insertTests z s (malformed w referenceMost words) limit (fingerprintOf w rate words)))
-      (λ e. rw e (ap stored (ap (λ (v : List ℕ). nextId v (length (content s .rows))) (I .agrees .vacant) ∙ ap (nextId (c .vacant)) (I .agrees .size))))
-      (λ n e. absurd (h n (rw e)))
-  from-catalog s c I (remove id) h = maybe (refusal (plainTests s)) (λ e. rw e (ap (λ (o : Option Row). removed (isLive o)) (I .agrees .live id))) (λ n e. absurd (h n (rw e)))
-  from-catalog s c I liveCount h = maybe (refusal (plainTests s))
-      (λ e. rw e (ap (λ (n : ℕ). count (n - length (content s .vacant))) (I .agrees .size) ∙ ap (λ (v : List ℕ). count (c .size - length v)) (I .agrees .vacant)))
-      (λ n e. absurd (h n (rw e)))
-  from-catalog s c I (query q) h = answered s c I q (accepted s q h)
+  told s c I (build limit words lengths rates) = refl
+  told s c I (insert limit rate words) = ap stored (ap (λ (v : List ℕ). nextId v (length (content s .rows))) (I .agrees .vacant) ∙ ap (nextId (c .vacant)) (I .agrees .size))
+  told s c I (remove id) = ap (λ (o : Option Row). removed (isLive o)) (I .agrees .live id)
+  told s c I liveCount = ap (λ (n : ℕ). count (n - length (content s .vacant))) (I .agrees .size) ∙ ap (λ (v : List ℕ). count (c .size - length v)) (I .agrees .vacant)
+  told s c I (query q) = ap answerOf (best-same S (I .agrees) q)
+
+  from-catalog : (s : Store) (c : Catalog) → Inv w z s c → (x : Call S) → Accepted (step S z s x .0) → step S z s x .0 ≡ answerFrom S c x
+  from-catalog s c I x h = maybe (refusal (stepOf S z s x .tests)) (λ e. rw e (told s c I x)) (λ n e. absurd (h n (rw e)))
 
   pub from-history : (s : Store) → SoundStore w z s → FromHistory S (step S z) (catalog (content s)) s
   from-history s h before x k =

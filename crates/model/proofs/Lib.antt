@@ -13,6 +13,7 @@ pub mod Preserved
 pub mod Change
 pub mod Demand3
 pub mod Run
+pub mod Refusals
 pub mod Claim
 pub mod Loading
 pub mod Vacant

@@ -21,16 +21,12 @@ use Rattle.model.specs.Query.{Scheme, Catalog, catalog}
 use Rattle.model.specs.Calls.{Sizes, Store, unlisted, unsound, holds, content, Call, build, insert, remove, liveCount, query, refusal, buildTests, insertTests, plainTests, queryTests, buildStep, insertStep, removeStep, countStep, queryStep, step}
 use Rattle.model.specs.Sound.{isDead, goodRow, goodHash, Sound, SoundStore}
 use Rattle.model.specs.History.{withRecording, withoutRecording, fromBuild, after, leaves, answers, replay}
+use Rattle.model.specs.Refusals.{testOf}
 use Rattle.model.proofs.Fingerprints.{row-sound, hashes-sound, WideHashes, wide-hashes, wide-fingerprints, wide-posted, wide-numbered}
 use Rattle.model.proofs.Parts.{getD-putRow, length-putRow, getD-setNone, dead-fewer, dead-more, ascending-stopKeys}
 use Rattle.model.proofs.Agree.{Agrees, agrees-self, Clean, kept-same, stops-same, kept-sorted, kept-clean, held-clean}
 
 -- ---- tables of refusals
-
--- the test of a number
-abbrev pub testOf : ℕ → List (ℕ × Bool) → Bool
-testOf n [] = false
-testOf n (e ∷ es) = cond (eqb (e .0) n) (e .1) (testOf n es)
 
 -- no test applies to a call that is not refused, and the other way round
 pub none-applies : (es : List (ℕ × Bool)) → refusal es ≡ none → (n : ℕ) → testOf n es ≡ false

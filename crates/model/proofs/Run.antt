@@ -2,18 +2,19 @@
 use mathlib.Core.Path.{_≡_, refl, sym, ap, _∙_, subst}
 use mathlib.Core.Logic.{_⊎_, inl, inr, ⊎-elim}
 use mathlib.Core.Bool.{true, false, not}
-use mathlib.Core.List.{List}
 use mathlib.Core.Option.{Option, none, some}
 use Prim.Native.Nat.{ℕ, _≤_}
 use native.Mathlib.Omega.{arith}
 use lib.ListN.{getD}
 use Rattle.lists.proofs.Tests.{test, maybe, not-both}
+use Rattle.matching.specs.declared.MatchResult.{MatchResult}
 use Rattle.model.specs.Fingerprints.{fingerprintOf, fingerprintsOf, malformed, malformedBuild, referenceMost}
-use Rattle.model.specs.Index.{Index, newId, isLive, inserted, builtFrom, erased}
-use Rattle.model.specs.Query.{Scheme, Query, catalog}
-use Rattle.model.specs.Calls.{Sizes, Store, holds, content, isUnlisted, Answer, built, stored, removed, refused, Call, build, insert, remove, liveCount, query, refusal, buildTests, insertTests, plainTests, queryTests, Outcome, outcome, buildStep, insertStep, removeStep, countStep, queryStep, step}
+use Rattle.model.specs.Index.{Index, isLive, inserted, builtFrom, erased}
+use Rattle.model.specs.Query.{Scheme, Query, catalog, bestOf}
+use Rattle.model.specs.Calls.{Sizes, Store, holds, content, isUnlisted, Answer, removed, refused, Call, build, insert, remove, liveCount, query, refusal, buildTests, insertTests, plainTests, queryTests, Outcome, outcome, buildStep, insertStep, removeStep, countStep, queryStep, answerOf, stepOf, taken, step}
 use Rattle.model.specs.Words.{Words, sizesOf, slicesListed}
 use Rattle.model.specs.Sound.{Sound, SoundStore}
+use Rattle.model.specs.Claim.{Accepted}
 use Rattle.model.specs.Run.{storeOf, laidOut, onWords, runBuild, runInsert, runRemove, runCount, runQuery, run}
 use Rattle.model.proofs.Stores.{written-sizes, store-sound, store-again, store-written, store-unlisted}
 use Rattle.model.proofs.Preserved.{sound-store, none-applies, start-inv, step-inv}
@@ -23,86 +24,60 @@ use Rattle.model.proofs.Preserved.{sound-store, none-applies, start-inv
 abbrev pub Left : Store → Store → Type 0
 Left s t = (t ≡ s) ⊎ ((x : Index) × (t ≡ holds x) × (isUnlisted s ≡ false))
 
-module _ (w : ℕ) (z : Sizes) (s : Store) where
-  build-left : (limit : ℕ) (words lengths rates : List ℕ) → Left s (buildStep w z s limit words lengths rates .1)
-  unfolding buildStep buildTests
-  build-left limit words lengths rates =
-      let fs = fingerprintsOf w words lengths rates in
-      maybe (refusal (buildTests z s (malformedBuild w words lengths rates) limit fs))
-      (λ e. rw e (inr (builtFrom w limit fs, refl, none-applies (buildTests z s (malformedBuild w words lengths rates) limit fs) e 1)))
-      (λ n e. rw e (inl refl))
+-- what an accepted call leaves
+accepted-left : (S : Scheme) (z : Sizes) (s : Store) (x : Call S) → refusal (stepOf S z s x .tests) ≡ none → Left s (stepOf S z s x .left)
+unfolding buildStep insertStep removeStep countStep queryStep buildTests insertTests plainTests
+accepted-left S z s (build limit words lengths rates) e =
+    let fs = fingerprintsOf (S .width) words lengths rates in
+    inr (builtFrom (S .width) limit fs, refl, none-applies (buildTests z s (malformedBuild (S .width) words lengths rates) limit fs) e 1)
+accepted-left S z s (insert limit rate words) e =
+    let f = fingerprintOf (S .width) rate words in
+    inr (inserted (S .width) limit f (content s), refl, none-applies (insertTests z s (malformed (S .width) referenceMost words) limit f) e 1)
+accepted-left S z s (remove id) e = test (isLive (getD (content s .rows) id none))
+    (λ d. rw d (inr (erased id (content s), refl, none-applies (plainTests s) e 1)))
+    (λ d. rw d (inl refl))
+accepted-left S z s liveCount e = inl refl
+accepted-left S z s (query q) e = inl refl
 
-  insert-left : (limit rate : ℕ) (words : List ℕ) → Left s (insertStep w z s limit rate words .1)
-  unfolding insertStep insertTests
-  insert-left limit rate words =
-      let f = fingerprintOf w rate words in
-      maybe (refusal (insertTests z s (malformed w referenceMost words) limit f))
-      (λ e. rw e (inr (inserted w limit f (content s), refl, none-applies (insertTests z s (malformed w referenceMost words) limit f) e 1)))
-      (λ n e. rw e (inl refl))
+step-left : (S : Scheme) (z : Sizes) (s : Store) (x : Call S) → Left s (step S z s x .1)
+step-left S z s x = maybe (refusal (stepOf S z s x .tests)) (λ e. rw e (accepted-left S z s x e)) (λ n e. rw e (inl refl))
 
-remove-left : (s : Store) (id : ℕ) → Left s (removeStep s id .1)
-unfolding removeStep plainTests
-remove-left s id = maybe (refusal (plainTests s))
-    (λ e. test (isLive (getD (content s .rows) id none))
-    (λ d. rw (e, d) (inr (erased id (content s), refl, none-applies (plainTests s) e 1)))
-    (λ d. rw (e, d) (inl refl)))
-    (λ n e. rw e (inl refl))
-
--- a count and a query leave the store as it was
+-- a count and a query leave the store as it was, and so does a removal of an id that is not live
 outcome-same : (o : Option ℕ) (s : Store) (a : Answer) → outcome o s a s .1 ≡ s
 outcome-same none s a = refl
 outcome-same (some n) s a = refl
 
-pub count-same : (s : Store) → countStep s .1 ≡ s
+pub count-same : (s : Store) → taken s (countStep s) .1 ≡ s
 unfolding countStep
 count-same s = outcome-same (refusal (plainTests s)) s _
 
-pub query-same : (S : Scheme) (s : Store) (q : Query S) → queryStep S s q .1 ≡ s
+pub query-same : (S : Scheme) (s : Store) (q : Query S) → taken s (queryStep S s q) .1 ≡ s
 unfolding queryStep
 query-same S s q = outcome-same (refusal (queryTests S s q)) s _
 
-step-left : (S : Scheme) (z : Sizes) (s : Store) (x : Call S) → Left s (step S z s x .1)
-step-left S z s (build limit words lengths rates) = build-left (S .width) z s limit words lengths rates
-step-left S z s (insert limit rate words) = insert-left (S .width) z s limit rate words
-step-left S z s (remove id) = remove-left s id
-step-left S z s liveCount = inl (count-same s)
-step-left S z s (query q) = inl (query-same S s q)
-
--- ---- a refused call leaves the store as it was
-
-module _ (w : ℕ) (z : Sizes) (s : Store) (n : ℕ) where
-  pub build-refused : (limit : ℕ) (words lengths rates : List ℕ) → buildStep w z s limit words lengths rates .0 ≡ refused n → buildStep w z s limit words lengths rates .1 ≡ s
-  unfolding buildStep
-  build-refused limit words lengths rates e =
-      maybe (refusal (buildTests z s (malformedBuild w words lengths rates) limit (fingerprintsOf w words lengths rates)))
-      (λ d. let f : built ≡ refused n = (rw d at e) in let o : _≡_ {A = ℕ} 0 1 = cc in absurd (omega arith))
-      (λ k d. rw d)
-
-  pub insert-refused : (limit rate : ℕ) (words : List ℕ) → insertStep w z s limit rate words .0 ≡ refused n → insertStep w z s limit rate words .1 ≡ s
-  unfolding insertStep
-  insert-refused limit rate words e =
-      maybe (refusal (insertTests z s (malformed w referenceMost words) limit (fingerprintOf w rate words)))
-      (λ d. let f : stored (newId (content s)) ≡ refused n = (rw d at e) in let o : _≡_ {A = ℕ} 0 1 = cc in absurd (omega arith))
-      (λ k d. rw d)
-
-pub remove-refused : (s : Store) (id n : ℕ) → removeStep s id .0 ≡ refused n → removeStep s id .1 ≡ s
-unfolding removeStep
-remove-refused s id n e =
-    maybe (refusal (plainTests s))
-    (λ d. let f : removed (isLive (getD (content s .rows) id none)) ≡ refused n = (rw d at e) in let o : _≡_ {A = ℕ} 0 1 = cc in absurd (omega arith))
-    (λ k d. rw d)
-
--- of an id that is not live
-pub remove-no : (s : Store) (id : ℕ) → isLive (getD (content s .rows) id none) ≡ false → removeStep s id .1 ≡ s
+pub remove-no : (s : Store) (id : ℕ) → isLive (getD (content s .rows) id none) ≡ false → taken s (removeStep s id) .1 ≡ s
 unfolding removeStep
 remove-no s id e = rw e (outcome-same (refusal (plainTests s)) s (removed false))
 
-step-refused : (S : Scheme) (z : Sizes) (s : Store) (x : Call S) (n : ℕ) → step S z s x .0 ≡ refused n → step S z s x .1 ≡ s
-step-refused S z s (build limit words lengths rates) n e = build-refused (S .width) z s n limit words lengths rates e
-step-refused S z s (insert limit rate words) n e = insert-refused (S .width) z s n limit rate words e
-step-refused S z s (remove id) n e = remove-refused s id n e
-step-refused S z s liveCount n e = count-same s
-step-refused S z s (query q) n e = query-same S s q
+-- ---- a refused call: its table has the number, and the store is as it was
+
+-- an accepted call answers no refusal
+no-refusal : (S : Scheme) (z : Sizes) (s : Store) (x : Call S) → Accepted (stepOf S z s x .answer)
+unfolding buildStep insertStep removeStep countStep queryStep
+no-refusal S z s (build limit words lengths rates) n e = let o : _≡_ {A = ℕ} 0 1 = cc in omega arith
+no-refusal S z s (insert limit rate words) n e = let o : _≡_ {A = ℕ} 0 1 = cc in omega arith
+no-refusal S z s (remove id) n e = let o : _≡_ {A = ℕ} 0 1 = cc in omega arith
+no-refusal S z s liveCount n e = let o : _≡_ {A = ℕ} 0 1 = cc in omega arith
+no-refusal S z s (query q) n e = answered (bestOf S q (catalog (content s))) e
+  where
+    answered : (o : Option (ℕ × MatchResult)) → answerOf o ≡ refused n → ⊥
+    answered none e = let o : _≡_ {A = ℕ} 0 1 = cc in omega arith
+    answered (some b) e = let o : _≡_ {A = ℕ} 0 1 = cc in omega arith
+
+pub step-refused : (S : Scheme) (z : Sizes) (s : Store) (x : Call S) (n : ℕ) → step S z s x .0 ≡ refused n → (refusal (stepOf S z s x .tests) ≡ some n) × (step S z s x .1 ≡ s)
+step-refused S z s x n e = maybe (refusal (stepOf S z s x .tests))
+    (λ d. absurd (no-refusal S z s x n (rw d at e)))
+    (λ k d. let f : refused k ≡ refused n = (rw d at e) in let g : k ≡ n = cc in (d ∙ ap some g, rw d))
 
 -- ---- on words
 
@@ -157,13 +132,13 @@ module _ (S : Scheme) (w2 : 2 ≤ S .width) (m : Words) (x : Call S) where
   pub run-refused : (n : ℕ) → run S m x .0 ≡ refused n → run S m x .1 ≡ m
   run-refused n e =
       ap (λ (o : Answer × Words). o .1) (run-is S m x)
-      ∙ words-same w m w2 (step S (sizesOf w m) (storeOf w m) x) (step-refused S (sizesOf w m) (storeOf w m) x n (sym run-answers ∙ e))
+      ∙ words-same w m w2 (step S (sizesOf w m) (storeOf w m) x) (step-refused S (sizesOf w m) (storeOf w m) x n (sym run-answers ∙ e) .1)
 
 -- "A query doesn't change the store"
 pub query-unchanged : (S : Scheme) → 2 ≤ S .width → (m : Words) (q : Query S) → runQuery S m q .1 ≡ m
 unfolding runQuery
-query-unchanged S w2 m q = words-same (S .width) m w2 (queryStep S (storeOf (S .width) m) q) (query-same S (storeOf (S .width) m) q)
+query-unchanged S w2 m q = words-same (S .width) m w2 (taken (storeOf (S .width) m) (queryStep S (storeOf (S .width) m) q)) (query-same S (storeOf (S .width) m) q)
 
 pub count-unchanged : (w : ℕ) → 2 ≤ w → (m : Words) → runCount w m .1 ≡ m
 unfolding runCount
-count-unchanged w w2 m = words-same w m w2 (countStep (storeOf w m)) (count-same (storeOf w m))
+count-unchanged w w2 m = words-same w m w2 (taken (storeOf w m) (countStep (storeOf w m))) (count-same (storeOf w m))

@@ -55,7 +55,7 @@ pub data Call (S : Scheme) : Type 0 where
   liveCount : Call S
   query : Query S → Call S
 
--- ── refusals: for each call a table of numbers and tests, in the order in which they are looked at ──
+-- ── refusals: for each call a table of numbers and tests, in the order in which they are looked at (`order` in Refusals) ──
 
 -- "The lowest number that applies is returned."
 abbrev pub refusal : List (ℕ × Bool) → Option ℕ
@@ -117,26 +117,36 @@ abbrev pub outcome : Option ℕ → Store → Answer → Store → Outcome
 outcome (some n) s a t = (refused n, s)
 outcome none s a t = (a, t)
 
+-- a call on a store: its table of refusals, and what it answers and leaves where no test of the table holds
+pub record Step : Type 0 where
+  pub tests : List (ℕ × Bool)
+  pub answer : Answer
+  pub left : Store
+
 -- "`build` overwrites any content."
-unfoldable pub buildStep : ℕ → Sizes → Store → ℕ → List ℕ → List ℕ → List ℕ → Outcome
+unfoldable pub buildStep : ℕ → Sizes → Store → ℕ → List ℕ → List ℕ → List ℕ → Step
 buildStep w z s limit words lengths rates =
     let fs = fingerprintsOf w words lengths rates in
-    outcome (refusal (buildTests z s (malformedBuild w words lengths rates) limit fs)) s built (holds (builtFrom w limit fs))
+    record { tests = buildTests z s (malformedBuild w words lengths rates) limit fs; answer = built; left = holds (builtFrom w limit fs) }
 
-unfoldable pub insertStep : ℕ → Sizes → Store → ℕ → ℕ → List ℕ → Outcome
+unfoldable pub insertStep : ℕ → Sizes → Store → ℕ → ℕ → List ℕ → Step
 insertStep w z s limit rate words =
     let f = fingerprintOf w rate words in
-    outcome (refusal (insertTests z s (malformed w referenceMost words) limit f)) s (stored (newId (content s))) (holds (inserted w limit f (content s)))
+    record {
+      tests = insertTests z s (malformed w referenceMost words) limit f;
+      answer = stored (newId (content s));
+      left = holds (inserted w limit f (content s));
+    }
 
 -- "`remove` of an id that isn't live answers no and changes nothing."
-unfoldable pub removeStep : Store → ℕ → Outcome
+unfoldable pub removeStep : Store → ℕ → Step
 removeStep s id =
     let live = isLive (getD (content s .rows) id none) in
-    outcome (refusal (plainTests s)) s (removed live) (cond live (holds (erased id (content s))) s)
+    record { tests = plainTests s; answer = removed live; left = cond live (holds (erased id (content s))) s }
 
 -- "live_count is n − v"
-unfoldable pub countStep : Store → Outcome
-countStep s = outcome (refusal (plainTests s)) s (count (length (content s .rows) - length (content s .vacant))) s
+unfoldable pub countStep : Store → Step
+countStep s = record { tests = plainTests s; answer = count (length (content s .rows) - length (content s .vacant)); left = s }
 
 -- "best with its result, none"
 abbrev pub answerOf : Option (ℕ × MatchResult) → Answer
@@ -144,12 +154,19 @@ answerOf none = nothing
 answerOf (some b) = best (b .0) (b .1)
 
 -- "A query doesn't change the store"
-unfoldable pub queryStep : (S : Scheme) → Store → Query S → Outcome
-queryStep S s q = outcome (refusal (queryTests S s q)) s (answerOf (bestOf S q (catalog (content s)))) s
+unfoldable pub queryStep : (S : Scheme) → Store → Query S → Step
+queryStep S s q = record { tests = queryTests S s q; answer = answerOf (bestOf S q (catalog (content s))); left = s }
+
+abbrev pub stepOf : (S : Scheme) → Sizes → Store → Call S → Step
+stepOf S z s (build limit words lengths rates) = buildStep (S .width) z s limit words lengths rates
+stepOf S z s (insert limit rate words) = insertStep (S .width) z s limit rate words
+stepOf S z s (remove id) = removeStep s id
+stepOf S z s liveCount = countStep s
+stepOf S z s (query q) = queryStep S s q
+
+-- what comes of it
+abbrev pub taken : Store → Step → Outcome
+taken s p = outcome (refusal (p .tests)) s (p .answer) (p .left)
 
 abbrev pub step : (S : Scheme) → Sizes → Store → Call S → Outcome
-step S z s (build limit words lengths rates) = buildStep (S .width) z s limit words lengths rates
-step S z s (insert limit rate words) = insertStep (S .width) z s limit rate words
-step S z s (remove id) = removeStep s id
-step S z s liveCount = countStep s
-step S z s (query q) = queryStep S s q
+step S z s x = taken s (stepOf S z s x)

@@ -3,7 +3,7 @@ use mathlib.Core.Bool.{cond}
 use mathlib.Core.List.{List}
 use Prim.Native.Nat.{ℕ}
 use Rattle.model.specs.Query.{Scheme, Query}
-use Rattle.model.specs.Calls.{Store, unlisted, unsound, holds, Answer, Call, build, insert, remove, liveCount, query, Outcome, buildStep, insertStep, removeStep, countStep, queryStep}
+use Rattle.model.specs.Calls.{Store, unlisted, unsound, holds, Answer, Call, build, insert, remove, liveCount, query, Outcome, buildStep, insertStep, removeStep, countStep, queryStep, taken}
 use Rattle.model.specs.Words.{Words, sizesOf, slicesListed, write, readIndex}
 use Rattle.model.specs.Soundness.{soundWords}
 
@@ -22,19 +22,19 @@ onWords w m o = (o .0, laidOut w m (o .1))
 
 -- Each call: what the words say decides its answer and what it leaves. These are what the contracts of the entries equal.
 unfoldable pub runBuild : ℕ → Words → ℕ → List ℕ → List ℕ → List ℕ → Answer × Words
-runBuild w m limit words lengths rates = onWords w m (buildStep w (sizesOf w m) (storeOf w m) limit words lengths rates)
+runBuild w m limit words lengths rates = onWords w m (taken (storeOf w m) (buildStep w (sizesOf w m) (storeOf w m) limit words lengths rates))
 
 unfoldable pub runInsert : ℕ → Words → ℕ → ℕ → List ℕ → Answer × Words
-runInsert w m limit rate words = onWords w m (insertStep w (sizesOf w m) (storeOf w m) limit rate words)
+runInsert w m limit rate words = onWords w m (taken (storeOf w m) (insertStep w (sizesOf w m) (storeOf w m) limit rate words))
 
 unfoldable pub runRemove : ℕ → Words → ℕ → Answer × Words
-runRemove w m id = onWords w m (removeStep (storeOf w m) id)
+runRemove w m id = onWords w m (taken (storeOf w m) (removeStep (storeOf w m) id))
 
 unfoldable pub runCount : ℕ → Words → Answer × Words
-runCount w m = onWords w m (countStep (storeOf w m))
+runCount w m = onWords w m (taken (storeOf w m) (countStep (storeOf w m)))
 
 unfoldable pub runQuery : (S : Scheme) → Words → Query S → Answer × Words
-runQuery S m q = onWords (S .width) m (queryStep S (storeOf (S .width) m) q)
+runQuery S m q = onWords (S .width) m (taken (storeOf (S .width) m) (queryStep S (storeOf (S .width) m) q))
 
 abbrev pub run : (S : Scheme) → Words → Call S → Answer × Words
 run S m (build limit words lengths rates) = runBuild (S .width) m limit words lengths rates
