@@ -126,7 +126,9 @@ module _ (vs us : List Vote) (same : (p : Vote → Bool) → countIf p vs ≡ co
 
   pub bins-same : houghBins vs ≡ houghBins us
   unfolding houghBins
-  bins-same = ap₂ (λ (b : Vote → List ℤ) (l : List Vote). flat (map b l)) (fun-ext (λ b. ap (λ (n : ℕ). pos (b .bin) ∷ b .offset ∷ pos n ∷ []) (same (λ v. sameBin v b)))) occupied-same
+  bins-same =
+      ap₂ (λ (b : Vote → List ℤ) (l : List Vote). flat (map b l))
+      (fun-ext (λ b. ap (λ (n : ℕ). pos (b .bin) ∷ b .offset ∷ pos n ∷ []) (same (λ v. sameBin v b)))) occupied-same
 
 -- ---- votes by their codes
 
@@ -156,4 +158,6 @@ bins-codes ks =
     let f : ℕ → List ℤ = λ k. countedBin vs (voteOfCode k) in
     let g : ℕ → List ℤ = λ k. binWords panakoForm middle k (howOften ks k) in
     ap (λ (l : List Vote). flat (map (countedBin vs) l)) (occupied-codes ks)
-    ∙ ap flat (map-map (countedBin vs) voteOfCode (occupied ks) ∙ map-same f g (occupied ks) (all-of (λ k. f k ≡ g k) (λ k. ap (binWords panakoForm middle k) (often-codes ks k)) (occupied ks)))
+    ∙ ap flat
+    (map-map (countedBin vs) voteOfCode (occupied ks)
+    ∙ map-same f g (occupied ks) (all-of (λ k. f k ≡ g k) (λ k. ap (binWords panakoForm middle k) (often-codes ks k)) (occupied ks)))

@@ -83,6 +83,12 @@ module _ (v u : Vote) where
       test lower (λ e. f (ltb-true (v .bin) (u .bin) e))
       (λ e. let k = or-else lower (level && under) h e in g (eqb-true (v .bin) (u .bin) (and-left level under k)) (and-right level under k))
 
+  not-lower : before v u ≡ false → u .bin ≤ v .bin
+  not-lower h = ltb-false (v .bin) (u .bin) (or-false-left lower (level && under) h)
+
+  not-under : before v u ≡ false → v .bin ≡ u .bin → under ≡ false
+  not-under h e = sym (yes-and level under (eq-eqb (v .bin) (u .bin) e)) ∙ or-false-right lower (level && under) h
+
 pub before-irrefl : (v : Vote) → before v v ≡ false
 before-irrefl v = test (before v v) (λ h. by-either v v h (λ l. absurd (omega arith)) (λ e l. absurd (not-both l (below-irrefl (v .offset))))) (λ h. h)
 
@@ -92,13 +98,13 @@ before-trans v u w h k =
     (λ a. by-either u w k (λ b. by-bin v w (omega arith)) (λ b o. by-bin v w (omega arith)))
     (λ a o. by-either u w k (λ b. by-bin v w (omega arith)) (λ b p. by-offset v w (a ∙ b) (below-trans (v .offset) (u .offset) (w .offset) o p)))
 
+before-asym : (v u : Vote) → Before v u → before u v ≡ false
+before-asym v u h = test (before u v) (λ k. absurd (not-both (before-trans v u v h k) (before-irrefl v))) (λ k. k)
+
 pub before-total : (v u : Vote) → before v u ≡ false → before u v ≡ false → v ≡ u
 before-total v u h k =
-    let same : v .bin ≡ u .bin = omega (arith, ltb-false (v .bin) (u .bin) (or-false-left (lower v u) (level v u && under v u) h), ltb-false (u .bin) (v .bin) (or-false-left (lower u v) (level u v && under u v) k)) in
-    vote-is v u same
-    (below-total (v .offset) (u .offset)
-    (sym (yes-and (level v u) (under v u) (eq-eqb (v .bin) (u .bin) same)) ∙ or-false-right (lower v u) (level v u && under v u) h)
-    (sym (yes-and (level u v) (under u v) (eq-eqb (u .bin) (v .bin) (sym same))) ∙ or-false-right (lower u v) (level u v && under u v) k))
+    let same : v .bin ≡ u .bin = omega (arith, not-lower v u h, not-lower u v k) in
+    vote-is v u same (below-total (v .offset) (u .offset) (not-under v u h same) (not-under u v k (sym same)))
 
 -- ---- codes
 
@@ -109,17 +115,17 @@ codes-before j k h = go (decLt (j / 2 ^ 40) (k / 2 ^ 40))
     go : Dec (j / 2 ^ 40 < k / 2 ^ 40) → Before (voteOfCode j) (voteOfCode k)
     go (yes p) = by-bin (voteOfCode j) (voteOfCode k) p
     go (no p) =
-        by-offset (voteOfCode j) (voteOfCode k) (omega arith)
-        (is-true (ltZ (voteOfCode j .offset) (voteOfCode k .offset)) (leZ-ltZ (voteOfCode j .offset) (voteOfCode k .offset) (le-shift (negℤ (pos middle)) (k % 2 ^ 40) (j % 2 ^ 40) ∙ lt-leb (k % 2 ^ 40) (j % 2 ^ 40) (omega arith))))
+        let a = voteOfCode j .offset in
+        let b = voteOfCode k .offset in
+        let e = le-shift (negℤ (pos middle)) (k % 2 ^ 40) (j % 2 ^ 40) ∙ lt-leb (k % 2 ^ 40) (j % 2 ^ 40) (omega arith) in
+        by-offset (voteOfCode j) (voteOfCode k) (omega arith) (is-true (ltZ a b) (leZ-ltZ a b e))
 
+-- and no others do
 pub before-codes : (j k : ℕ) → before (voteOfCode j) (voteOfCode k) ≡ ltb j k
-before-codes j k =
-    both-ways (before (voteOfCode j) (voteOfCode k)) (ltb j k)
-    (λ h. test (ltb j k) (λ e. e) (λ e. absurd (not-both h (go (decLt k j) (ltb-false j k e)))))
-    (λ e. codes-before j k (ltb-true j k e))
+before-codes j k = test (ltb j k) (λ e. codes-before j k (ltb-true j k e) ∙ sym e) (λ e. go (decLt k j) (ltb-false j k e) ∙ sym e)
   where
     go : Dec (k < j) → k ≤ j → before (voteOfCode j) (voteOfCode k) ≡ false
-    go (yes p) l = test (before (voteOfCode j) (voteOfCode k)) (λ h. absurd (not-both (before-trans (voteOfCode j) (voteOfCode k) (voteOfCode j) h (codes-before k j p)) (before-irrefl (voteOfCode j)))) (λ h. h)
+    go (yes p) l = before-asym (voteOfCode k) (voteOfCode j) (codes-before k j p)
     go (no p) l = let e : k ≡ j = omega arith in rw e (before-irrefl (voteOfCode j))
 
 pub same-codes : (j k : ℕ) → sameBin (voteOfCode j) (voteOfCode k) ≡ eqb j k
