@@ -1,6 +1,6 @@
 -- The occupied codes of votes: strictly ascending, those that a vote has, with counts that add up to the votes; and their bins.
 -- Assumes nothing.
-use mathlib.Core.Path.{_≡_, refl, sym, ap, ap₂, _∙_, fun-ext}
+use mathlib.Core.Path.{_≡_, refl, sym, ap, _∙_}
 use mathlib.Core.Bool.{Bool, true, false, _||_}
 use mathlib.Core.List.{List, [], _∷_, _++_, map, map-append}
 use Prim.Native.Nat.{ℕ, zero, suc, _+_, _*_, _≤_, _<_}
@@ -15,7 +15,7 @@ use Rattle.lists.specs.Lists.{flat, some?, member, insertKey, All}
 use Rattle.lists.specs.Keys.{Ascending}
 use Rattle.lists.proofs.Tests.{test}
 use Rattle.lists.proofs.Keep.{all-imp, all-of, all-at, all-make, all-map, all-of-key, key-of-all, some-none, flat-append, flat-one, length-flat, map-same}
-use Rattle.lists.proofs.Ascending.{ascending-at, ascending-ext, member-insertKey, ascending-insertKey}
+use Rattle.lists.proofs.Ascending.{ascending-at, member-insertKey, ascending-insertKey}
 use Rattle.maps.specs.Sums.{sumTo, when}
 use Rattle.maps.specs.Lists.{countIf}
 use Rattle.maps.proofs.Sums.{sum-add, sum-cong, sum-none}
@@ -132,19 +132,6 @@ module _ (ks : List ℕ) where
       sym (sparse-sum key w keys (record { asc = keys-up; top = all-at (λ k. k < w) (occupied ks) 0 (occupied-all (λ k. k < w) ks h) }) (λ x. when (p x) (howOften ks x))
       (λ x l o. ap (when (p x)) (off x o) ∙ when-none (p x)))
       ∙ spread p w ks h
-
--- ---- votes with the same counts
-
-module _ (ks ls : List ℕ) (same : (p : ℕ → Bool) → countIf p ks ≡ countIf p ls) where
-  pub occupied-same : occupied ks ≡ occupied ls
-  occupied-same =
-      ascending-ext (occupied ks) (occupied ls) (occupied-ascend ks) (occupied-ascend ls)
-      (λ k. occupied-member k ks ∙ ap (ltb 0) (same (λ x. eqb x k)) ∙ sym (occupied-member k ls))
-
-  pub bins-same : (f : Form) (middle : ℕ) → binsOf f middle ks ≡ binsOf f middle ls
-  unfolding binsOf
-  bins-same f middle =
-      ap₂ (λ (b : ℕ → List ℤ) (os : List ℕ). flat (map b os)) (fun-ext (λ k. ap (binWords f middle k) (same (λ x. eqb x k)))) occupied-same
 
 -- ---- the words of the bins
 

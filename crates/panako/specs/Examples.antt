@@ -33,8 +33,7 @@ use Rattle.panako_vote.specs.Settings.{normalised, withinLimits}
 use Rattle.panako_vote.specs.Grids.{binAt, gridOf}
 use Rattle.panako_vote.specs.Votes.{voteAtScale, voteOn}
 use Rattle.gates.specs.Gates.{peakGates, gates, resultAt}
-use Rattle.bins.specs.Codes.{occupied, binsOf}
-use Rattle.panako_judge.specs.Judge.{seenOf, timeScaleOf, judgeBy}
+use Rattle.panako_judge.specs.Judge.{withBin, occupiedBins, houghBins, seenOf, timeScaleOf, judgeBy}
 use Rattle.panako_judge.specs.Scheme.{beyond, votesOf, judge, panako}
 
 -- scales 0.80 to 1.25 in 24 bins, tolerance 1, min_votes 1, min_score 0.25, min_prominence 0.5, and scratch for 6 votes
@@ -61,5 +60,5 @@ abbrev material : Material panako
 material = record { both = 7 ∷ 110 ∷ 115 ∷ 120 ∷ 9 ∷ 130 ∷ 135 ∷ 140 ∷ []; one = 7 ∷ 110 ∷ 115 ∷ 120 ∷ []; other = 5 ∷ 110 ∷ 115 ∷ 120 ∷ []; probe = probe }
 
 pub examples : T (allRight panako material)
-unfolding leaves runBuild runInsert runRemove runQuery storeOf slicesListed sizesListed sizesOf soundWords soundTests countsFit liveWord stoppedStep deadRow otherEntry vacantEntry deadFine rateFine liveId postingLive anchorFine rmaxFine otherKey keyUnstopped entryUnused readIndex write rowEntries every count allTrue entries keysAscend zeroWord zeroFrom padded keep some? flat sum insertKey place placeAll buildStep insertStep removeStep queryStep buildTests insertTests plainTests queryTests scratchListed numbered inserted builtFrom erased exceeds stopKeys hashesOf divided malformed malformedBuild rowOf canonical isCanonical largestAnchor gather tooManyVotes candidate bestBelow better seenOf peakGates gates resultAt judgeBy beyond judge counting.countIf sumTo sumToℤ greatest first firstGreatest mode millis ratesAgree clampScore scoreOf roundToI64 abs maximum nanBits ofBits add sub mul div le lt ofInt isNan round votesOf occupied binsOf timeScaleOf houghSum houghPeak merged peakOffset farSum farCount prominence normalised withinLimits gridOf binAt voteAtScale voteOn perBin binCentre timeScale narrow toUnsigned
+unfolding leaves runBuild runInsert runRemove runQuery storeOf slicesListed sizesListed sizesOf soundWords soundTests countsFit liveWord stoppedStep deadRow otherEntry vacantEntry deadFine rateFine liveId postingLive anchorFine rmaxFine otherKey keyUnstopped entryUnused readIndex write rowEntries every count allTrue entries keysAscend zeroWord zeroFrom padded keep some? flat sum insertKey place placeAll buildStep insertStep removeStep queryStep buildTests insertTests plainTests queryTests scratchListed numbered inserted builtFrom erased exceeds stopKeys hashesOf divided malformed malformedBuild rowOf canonical isCanonical largestAnchor gather tooManyVotes candidate bestBelow better seenOf peakGates gates resultAt judgeBy beyond judge counting.countIf sumTo sumToℤ greatest first firstGreatest mode millis ratesAgree clampScore scoreOf roundToI64 abs maximum nanBits ofBits add sub mul div le lt ofInt isNan round votesOf withBin occupiedBins houghBins timeScaleOf houghSum houghPeak merged peakOffset farSum farCount prominence normalised withinLimits gridOf binAt voteAtScale voteOn perBin binCentre timeScale narrow toUnsigned
 examples = tt

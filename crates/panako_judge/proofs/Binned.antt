@@ -1,38 +1,23 @@
 -- The occupied bins are such as the Hough walk takes. Assumes nothing.
 use mathlib.Core.Path.{_≡_, ap, _∙_}
-use mathlib.Core.Bool.{true, _||_, _&&_}
+use mathlib.Core.Bool.{true}
 use mathlib.Core.List.{List}
 use Prim.Native.Nat.{ℕ, _+_, _*_, _/_, _%_, _^_, _≤_, _<_}
 use native.Mathlib.Omega.{arith}
-use native.Mathlib.Decide.{decLt}
-use lib.IntN.{ℤ, pos, negℤ, natAbs}
+use lib.IntN.{ℤ, pos, natAbs}
 use lib.ListN.{length, getD}
-use lib.Signed.{ltZ}
-use lib.Dec.{T, eqb, ltb}
-use borrow.Author.Tests.{eq-eqb, lt-ltb, le-ltb, lt-leb}
 use Rattle.lists.specs.Lists.{All}
 use Rattle.lists.proofs.Keep.{all-at}
 use Rattle.maps.proofs.Sums.{sum-cong}
+use Rattle.maps.proofs.Tests.{holds}
 use Rattle.signed.proofs.Sizes.{sub-dist}
-use Rattle.signed.proofs.Order.{leZ-ltZ}
-use Rattle.consolidate.proofs.Spans.{le-shift}
 use Rattle.hough.specs.Hough.{scale, votes}
 use Rattle.hough.specs.Limits.{Bins}
 use Rattle.panako_vote.specs.Words.{middle, voteOfCode}
-use Rattle.panako_judge.specs.Judge.{panakoForm}
+use Rattle.panako_judge.specs.Candidates.{panakoForm}
 use Rattle.bins.specs.Codes.{occupied, howOften, binsOf}
 use Rattle.bins.proofs.Occupied.{length-counts, occupied-all, occupied-few, key, keys-up, keys-held, bins-length, bins-at}
-
--- ---- the order of bins
-
-order : (j k : ℕ) → j < k → T (ltb (j / 2 ^ 40) (k / 2 ^ 40) || (eqb (j / 2 ^ 40) (k / 2 ^ 40) && ltZ (voteOfCode j .offset) (voteOfCode k .offset)))
-order j k h = go (decLt (j / 2 ^ 40) (k / 2 ^ 40))
-  where
-    go : Dec (j / 2 ^ 40 < k / 2 ^ 40) → T (ltb (j / 2 ^ 40) (k / 2 ^ 40) || (eqb (j / 2 ^ 40) (k / 2 ^ 40) && ltZ (voteOfCode j .offset) (voteOfCode k .offset)))
-    go (yes p) = rw (lt-ltb (j / 2 ^ 40) (k / 2 ^ 40) p) tt
-    go (no p) =
-        rw (le-ltb (j / 2 ^ 40) (k / 2 ^ 40) (omega arith), eq-eqb (j / 2 ^ 40) (k / 2 ^ 40) (omega arith))
-        (leZ-ltZ (voteOfCode j .offset) (voteOfCode k .offset) (le-shift (negℤ (pos middle)) (k % 2 ^ 40) (j % 2 ^ 40) ∙ lt-leb (k % 2 ^ 40) (j % 2 ^ 40) (omega arith)))
+use Rattle.panako_judge.proofs.Order.{codes-before}
 
 offset-close : (k : ℕ) → natAbs (voteOfCode k .offset) ≤ 2 ^ 39
 offset-close k = omega (arith, sub-dist (k % 2 ^ 40) middle)
@@ -68,6 +53,6 @@ module _ (ks : List ℕ) where
         scales = λ i h. omega (arith, scale-is i h, all-at (λ k. k < 2 ^ 52) (occupied ks) 0 (occupied-all (λ k. k < 2 ^ 52) ks small) i h);
         close = λ i h. rw (offset-at i h) (offset-close (key ks i));
         counted = λ i h. rw (count-at i h) tt;
-        ascend = λ i h. rw (offset-at i (omega arith), offset-at (i + 1) h, scale-is i (omega arith), scale-is (i + 1) h) (order (key ks i) (key ks (i + 1)) (keys-up ks i (i + 1) (omega arith) h));
+        ascend = λ i h. rw (offset-at i (omega arith), offset-at (i + 1) h, scale-is i (omega arith), scale-is (i + 1) h) (holds (codes-before (key ks i) (key ks (i + 1)) (keys-up ks i (i + 1) (omega arith) h)));
         sum = omega (arith, sum-cong (votes bins) (λ i. howOften ks (key ks i)) (length (occupied ks)) votes-are, keys-held ks (2 ^ 52) small (λ k. true), length-counts ks);
       }

@@ -9,8 +9,7 @@ use Rattle.bins.specs.Codes.{codeIn}
 use Rattle.panako_vote.specs.Votes.{InRange}
 use Rattle.panako_vote.specs.Words.{Vote, codeOf, voteOfCode, lowest, wordOf}
 use Rattle.panako_vote.proofs.Words.{less-below, less-from, code-small, vote-back}
-use Rattle.panako_judge.specs.Judge.{panakoForm}
-use Rattle.panako_judge.specs.Candidates.{recordingOf, voteIn}
+use Rattle.panako_judge.specs.Candidates.{panakoForm, recordingOf, voteIn}
 
 above-packed : (n : ℕ) → above lowest (pos n -ℤ pos lowest) ≡ n
 above-packed n = go (decLt n lowest)

@@ -1,6 +1,8 @@
 -- Laws that belong to no one function.
 pub mod Codes
 pub mod Votes
+pub mod Order
+pub mod Occupied
 pub mod Counts
 pub mod Binned
 pub mod Words

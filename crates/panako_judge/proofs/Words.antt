@@ -9,7 +9,7 @@ use lib.ListN.{length, take, drop, length-drop}
 use lib.Seq.{length-take-le}
 use lib.Ieee.{Float}
 use Rattle.lists.proofs.Tests.{test}
-use Rattle.lists.proofs.Keep.{all-of, map-map, map-same}
+use Rattle.lists.proofs.Keep.{map-map}
 use Rattle.maps.specs.Words.{SameOutside}
 use Rattle.maps.proofs.Words.{outside-none}
 use Rattle.bins.specs.Codes.{codeIn, codesIn, occupied, binsOf, stored}
@@ -21,33 +21,36 @@ use Rattle.hough.specs.Limits.{Bins}
 use Rattle.query_rank.specs.declared.Verdict.{Verdict}
 use Rattle.gates.proofs.Passing.{Weighed}
 use Rattle.panako_judge.specs.Judge as votes
-use Rattle.panako_vote.specs.Words.{middle, codeOf}
-use Rattle.panako_judge.specs.Judge.{panakoForm, binCount, seenOf, thresholdsOf, atPeak, resultOf}
-use Rattle.panako_judge.specs.Candidates.{voteIn, votesIn, Binned}
+use Rattle.panako_vote.specs.Words.{middle, voteOfCode}
+use Rattle.panako_judge.specs.Judge.{binCount, seenOf, thresholdsOf, atPeak, resultOf}
+use Rattle.panako_judge.specs.Candidates.{panakoForm, voteIn, votesIn, Binned}
 use Rattle.panako_judge.specs.declared.PanakoQuery.{PanakoQuery}
-use Rattle.panako_vote.proofs.Words.{code-back}
+use Rattle.panako_judge.proofs.Occupied.{count-codes, bins-codes}
 use Rattle.panako_judge.proofs.Binned.{bins-taken}
 
 module _ (s : List ℤ) (a g : ℕ) (fits : a + g ≤ length s) where
   pub votes-length : length (votesIn s a g) ≡ g
   votes-length = lib.ListN.length-map (take g (drop a s)) voteIn ∙ length-take-le g (drop a s) (omega (arith, length-drop a s))
 
-  -- their codes are those of the words
-  codes-are : map codeOf (votesIn s a g) ≡ codesIn panakoForm s a g
-  codes-are =
-      let l = take g (drop a s) in
-      map-map codeOf voteIn l ∙ map-same (λ z. codeOf (voteIn z)) (codeIn panakoForm) l (all-of (λ z. codeOf (voteIn z) ≡ codeIn panakoForm z) (λ z. code-back (codeIn panakoForm z)) l)
+  -- they are those of the words' codes, and so are their bins
+  by-codes : votesIn s a g ≡ map voteOfCode (codesIn panakoForm s a g)
+  by-codes = sym (map-map voteOfCode (codeIn panakoForm) (take g (drop a s)))
+
+  bins-by-codes : votes.houghBins (votesIn s a g) ≡ binsOf panakoForm middle (codesIn panakoForm s a g)
+  bins-by-codes = ap votes.houghBins by-codes ∙ bins-codes (codesIn panakoForm s a g)
+
+  count-by-codes : binCount (votesIn s a g) ≡ length (occupied (codesIn panakoForm s a g))
+  count-by-codes = ap binCount by-codes ∙ count-codes (codesIn panakoForm s a g)
 
   -- n bins of theirs, as words
   module _ (n : ℕ) (l : List ℤ) (number : n ≡ binCount (votesIn s a g)) (words : l ≡ votes.houghBins (votesIn s a g)) where
     pub bins-good : g ≤ 1000000 → Bins l n
     bins-good few =
-        rw (words, number)
-        (bins-taken (map codeOf (votesIn s a g)) (rw codes-are (codes-each panakoForm s a g fits (λ k. k < 2 ^ 52) (λ t h. omega arith)))
-        (omega (arith, lib.ListN.length-map (votesIn s a g) codeOf, votes-length)))
+        rw (words, number, bins-by-codes, count-by-codes)
+        (bins-taken (codesIn panakoForm s a g) (codes-each panakoForm s a g fits (λ k. k < 2 ^ 52) (λ t h. omega arith)) (omega (arith, codes-length panakoForm s a g fits)))
 
     pub bins-some : 0 < g → 0 < n
-    bins-some some = omega (arith, number, occupied-some (map codeOf (votesIn s a g)) (omega (arith, lib.ListN.length-map (votesIn s a g) codeOf, votes-length)))
+    bins-some some = omega (arith, number, count-by-codes, occupied-some (codesIn panakoForm s a g) (omega (arith, codes-length panakoForm s a g fits)))
 
     -- what the gates say of them
     pub weighed-bins : (q : PanakoQuery) (fps : Float) (v : Verdict)
@@ -61,7 +64,7 @@ module _ (s : List ℤ) (a g : ℕ) (fits : a + g ≤ length s) where
     bins-few = omega (arith, occupied-few (codesIn panakoForm s a g), codes-length panakoForm s a g fits)
 
     pub bins-number : n ≡ binCount (votesIn s a g)
-    bins-number = number ∙ ap (λ (ks : List ℕ). length (occupied ks)) (sym codes-are)
+    bins-number = number ∙ sym count-by-codes
 
     pub bins-outside : SameOutside s l at (at + 3 * g)
     bins-outside = rw written (stored-outside s s at (at + 3 * g) at (binsOf panakoForm middle (codesIn panakoForm s a g)) (outside-none s at (at + 3 * g)) (omega arith) (omega (arith, bins-length panakoForm middle (codesIn panakoForm s a g), bins-few)))
@@ -75,7 +78,7 @@ module _ (s : List ℤ) (a g : ℕ) (fits : a + g ≤ length s) where
         rw (e, written) (stored-read s at bins (omega (arith, k, number, bins-few)))
 
     pub part-is : take (at + 3 * n - at) (drop at l) ≡ votes.houghBins (votesIn s a g)
-    part-is = part-words ∙ ap (binsOf panakoForm middle) (sym codes-are)
+    part-is = part-words ∙ sym bins-by-codes
 
     -- behind the votes: they are as they were, and the bins stand there
     pub few-binned : a ≡ 0 → g ≤ at → (take g l ≡ take g s) × Binned l g at n
@@ -98,7 +101,7 @@ module _ (s l : List ℤ) (g at n : ℕ) (before : g ≤ at) (room : at + 3 * g 
   binned t = few-binned s 0 g (omega arith) at n l room (rw t at told) (rw t at left) refl before
 
   pub few-number : n ≡ counted (binCount (votesIn s 0 g))
-  few-number = told ∙ ap (λ (ks : List ℕ). counted (length (occupied ks))) (sym (codes-are s 0 g (omega arith)))
+  few-number = told ∙ ap counted (sym (count-by-codes s 0 g (omega arith)))
 
   pub few-counted : (0 < n → Binned l g at n) × (take g l ≡ take g s)
   few-counted = test (isFew (length (occupied (codesIn panakoForm s 0 g))))

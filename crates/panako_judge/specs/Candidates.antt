@@ -1,13 +1,19 @@
 -- A candidate's votes as they stand in the scratch, sorted, and what the code that judges it asks. Assumes nothing: these are definitions.
 use mathlib.Core.Path.{_≡_}
+use mathlib.Core.Bool.{true}
 use mathlib.Core.List.{List, map}
 use Prim.Native.Nat.{ℕ, _+_, _-_, _*_, _≤_, _<_}
 use lib.IntN.{ℤ}
 use lib.ListN.{length, take, drop}
 use Rattle.bins.specs.Codes.{codeIn, idIn, Group}
-use Rattle.panako_vote.specs.Words.{Vote, voteOfCode}
-use Rattle.panako_judge.specs.Judge.{panakoForm, houghBins, binCount}
+use Rattle.bins.specs.declared.Form.{Form}
+use Rattle.panako_vote.specs.Words.{Vote, voteOfCode, lowest}
+use Rattle.panako_judge.specs.Judge.{houghBins, binCount}
 use Rattle.panako_judge.specs.declared.PanakoQuery.{PanakoQuery}
+
+-- a vote's word counts from −2^63 and is an id above 52 bits of code
+abbrev pub panakoForm : Form
+panakoForm = record { low = lowest; bits = 0; size = 52; scaled = true }
 
 -- the id and the vote of a word
 abbrev pub recordingOf : ℤ → ℕ

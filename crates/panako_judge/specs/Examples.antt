@@ -6,7 +6,7 @@ use mathlib.Core.Option.{Option, none, some}
 use Prim.Native.Nat.{ℕ, _+_}
 use lib.IntN.{ℤ, pos, negsuc}
 use lib.Ieee.{binary32, add, sub, mul, div, le, lt, isNan, ofInt, toUnsigned, ofBits, toBits}
-use Rattle.lists.specs.Lists.{flat, insertKey}
+use Rattle.lists.specs.Lists.{flat}
 use Rattle.lists.specs.Every.{allTrue}
 use Rattle.maps.specs.Sums.{sumTo, sumToℤ, greatest, first}
 use Rattle.maps.specs.Lists.{countIf}
@@ -20,15 +20,47 @@ use Rattle.matching.specs.declared.MatchResult.{MatchResult}
 use Rattle.consolidate.specs.Runs.{firstGreatest}
 use Rattle.consolidate.specs.Modes.{mode}
 use Rattle.hough.specs.Hough.{houghSum, houghPeak, merged, peakOffset, farSum, farCount, prominence}
-use Rattle.bins.specs.Codes.{occupied, binsOf}
 use Rattle.panako_vote.specs.Settings.{normalised, withinLimits}
 use Rattle.panako_vote.specs.Grids.{binAt, gridOf}
 use Rattle.panako_vote.specs.Votes.{voteAtScale, voteOn}
 use Rattle.model.specs.Fingerprints.{Hash}
 use Rattle.gates.specs.Gates.{peakGates, gates, resultAt}
 use Rattle.panako_vote.specs.Words.{Vote}
-use Rattle.panako_judge.specs.Judge.{seenOf, timeScaleOf, judgeBy}
+use Rattle.panako_judge.specs.Judge.{withBin, occupiedBins, houghBins, binCount, seenOf, timeScaleOf, judgeBy}
 use Rattle.panako_judge.specs.Scheme.{Ask, beyond, votesOf, judge}
+
+-- ---- the occupied bins of votes
+
+-- the vote of a scale bin and an offset
+abbrev at : ℕ → ℤ → Vote
+at bin offset = record { bin = bin; offset = offset }
+
+-- in any order: two are alike, −3 and −7 are among the offsets, and 10 stands on two scales
+abbrev mixed : List Vote
+mixed = at 5 (pos 10) ∷ at 4 (negsuc 2) ∷ at 5 (negsuc 6) ∷ at 4 (pos 10) ∷ at 5 (pos 10) ∷ []
+
+abbrev bins : List ℤ
+bins =
+    pos 4 ∷ negsuc 2 ∷ pos 1
+    ∷ pos 4 ∷ pos 10 ∷ pos 1
+    ∷ pos 5 ∷ negsuc 6 ∷ pos 1
+    ∷ pos 5 ∷ pos 10 ∷ pos 2
+    ∷ []
+
+binned : houghBins mixed ≡ bins
+unfolding houghBins occupiedBins withBin flat countIf
+binned = refl
+
+four : binCount mixed ≡ 4
+unfolding occupiedBins withBin
+four = refl
+
+-- no offset is too far off: −2^39 − 1 and −2^39 + 1 are two bins
+far : houghBins (at 0 (negsuc 549755813886) ∷ at 0 (negsuc 549755813888) ∷ []) ≡ pos 0 ∷ negsuc 549755813888 ∷ pos 1 ∷ pos 0 ∷ negsuc 549755813886 ∷ pos 1 ∷ []
+unfolding houghBins occupiedBins withBin flat countIf
+far = refl
+
+-- ---- candidates
 
 -- what the result of a candidate says: votes, score bits, prominence bits, frames, ms, time scale bits
 data Line : Type 0 where
@@ -130,5 +162,5 @@ unfolding limits beyond withinLimits normalised abs le lt ofBits
 refused = refl
 
 right : All table
-unfolding votesOf judge judgeBy occupied binsOf seenOf timeScaleOf peakGates gates resultAt flat insertKey allTrue countIf sumTo sumToℤ greatest first firstGreatest mode houghSum houghPeak merged peakOffset farSum farCount prominence normalised gridOf binAt voteAtScale voteOn perBin binCentre timeScale clampScore scoreOf ratesAgree millis roundToI64 narrow abs maximum add sub mul div le lt isNan ofInt toUnsigned ofBits toBits
+unfolding votesOf judge judgeBy withBin occupiedBins houghBins seenOf timeScaleOf peakGates gates resultAt flat allTrue countIf sumTo sumToℤ greatest first firstGreatest mode houghSum houghPeak merged peakOffset farSum farCount prominence normalised gridOf binAt voteAtScale voteOn perBin binCentre timeScale clampScore scoreOf ratesAgree millis roundToI64 narrow abs maximum add sub mul div le lt isNan ofInt toUnsigned ofBits toBits
 right = (refl, (refl, (refl, (refl, (refl, (refl, (refl, (refl, (refl, (refl, tt))))))))))

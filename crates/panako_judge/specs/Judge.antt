@@ -1,37 +1,57 @@
 -- Panako's judge: steps 1 to 4 of document 01's "Each candidate", from a candidate's votes, its rate and the query. The votes count by
 -- the occupied bins only, so their order can't matter (proofs/Counts.antt). Definitions only. Assumes nothing.
-use mathlib.Core.Bool.{true}
-use mathlib.Core.List.{List, map}
+use mathlib.Core.Bool.{Bool, cond, _&&_, _||_}
+use mathlib.Core.List.{List, [], _∷_, map}
 use mathlib.Core.Option.{Option}
 use Prim.Native.Nat.{ℕ}
-use lib.IntN.{ℤ}
+use lib.IntN.{ℤ, pos}
 use lib.ListN.{length}
+use lib.Signed.{ltZ}
+use lib.Dec.{eqb, ltb}
 use lib.Ieee.{Float, binary32, ofBits}
-use Rattle.bins.specs.Codes as bins
-use Rattle.bins.specs.declared.Form.{Form}
+use Rattle.lists.specs.Lists.{flat}
+use Rattle.maps.specs.Lists.{countIf}
 use Rattle.matching.specs.Scales.{binCentre, timeScale}
 use Rattle.matching.specs.Scores.{scoreOf}
 use Rattle.matching.specs.declared.MatchResult.{MatchResult}
 use Rattle.panako_vote.specs.Grids.{per}
-use Rattle.panako_vote.specs.Words.{Vote, middle, codeOf, lowest}
+use Rattle.panako_vote.specs.Words.{Vote}
 use Rattle.panako_vote.specs.declared.PanakoMatchConfig.{PanakoMatchConfig}
-use Rattle.hough.specs.Hough.{scale, houghPeak, peakOffset, prominence}
+use Rattle.hough.specs.Hough.{scale, gap, houghPeak, peakOffset, prominence}
 use Rattle.hough.specs.declared.Peak.{Peak}
 use Rattle.gates.specs.Gates.{Thresholds, AtPeak, gates, resultAt, passing}
 use Rattle.panako_judge.specs.declared.PanakoQuery.{PanakoQuery}
 
 -- ── the occupied bins ──
 
--- a vote's word counts from −2^63 and is an id above 52 bits of code
-abbrev pub panakoForm : Form
-panakoForm = record { low = lowest; bits = 0; size = 52; scaled = true }
+-- two votes in one bin: the same scale bin and the same offset
+abbrev pub sameBin : Vote → Vote → Bool
+sameBin v u = eqb (v .bin) (u .bin) && eqb (gap (v .offset) (u .offset)) 0
 
--- the occupied bins' words, as `hough` has them, and how many bins there are
-abbrev pub houghBins : List Vote → List ℤ
-houghBins vs = bins.binsOf panakoForm middle (map codeOf vs)
+-- "(scale, offset) order"
+abbrev pub before : Vote → Vote → Bool
+before v u = ltb (v .bin) (u .bin) || (eqb (v .bin) (u .bin) && ltZ (v .offset) (u .offset))
+
+-- the bin of v put among bins that stand in that order, unless it is there
+unfoldable pub withBin : Vote → List Vote → List Vote
+withBin v [] = v ∷ []
+withBin v (u ∷ us) = cond (sameBin u v) (u ∷ us) (cond (before v u) (v ∷ u ∷ us) (u ∷ withBin v us))
+
+-- "an occupied bin": a scale bin and an offset that a vote has. Each stands once, in order.
+unfoldable pub occupiedBins : List Vote → List Vote
+occupiedBins [] = []
+occupiedBins (v ∷ vs) = withBin v (occupiedBins vs)
+
+-- a bin as `hough` has it: its scale bin, its offset, and how many of the votes are in it
+abbrev pub countedBin : List Vote → Vote → List ℤ
+countedBin vs b = pos (b .bin) ∷ b .offset ∷ pos (countIf (λ v. sameBin v b) vs) ∷ []
+
+-- the words of all, and how many bins there are
+unfoldable pub houghBins : List Vote → List ℤ
+houghBins vs = flat (map (countedBin vs) (occupiedBins vs))
 
 abbrev pub binCount : List Vote → ℕ
-binCount vs = length (bins.occupied (map codeOf vs))
+binCount vs = length (occupiedBins vs)
 
 -- ── the judge ──
 
