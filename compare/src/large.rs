@@ -104,7 +104,7 @@ fn heard<I: Asked>(check: &mut Check, met: &mut Met, trial: &mut Trial<I>, times
     assert_eq!(given[0], 4, "there are votes");
 }
 
-/// The store that has so many postings and stopped keys.
+/// The store is to have so many postings and stopped keys.
 fn has<I: Index>(check: &mut Check, trial: &Trial<I>, postings: usize, stopped: u32) {
     let [_, _, p, k] = trial.store().header();
     check.holds([p, k] == [postings as u32, stopped], || {
