@@ -526,7 +526,7 @@ fn at_lengths<I: Index>(check: &mut Check, met: &mut Met, lengths: [usize; 3]) {
 
 // ---- the largest stores
 
-fn insert<I: Index>(hashes: Vec<u32>, limit: u32) -> Call {
+pub fn insert<I: Index>(hashes: Vec<u32>, limit: u32) -> Call {
     Call::Insert {
         hashes,
         rate: RATE,
@@ -535,7 +535,7 @@ fn insert<I: Index>(hashes: Vec<u32>, limit: u32) -> Call {
 }
 
 /// One recording for each of `lengths`.
-fn build<I: Index>(hashes: Vec<u32>, lengths: Vec<u32>, limit: u32) -> Call {
+pub fn build<I: Index>(hashes: Vec<u32>, lengths: Vec<u32>, limit: u32) -> Call {
     let rates = vec![RATE; lengths.len()];
     Call::Build {
         hashes,

@@ -27,14 +27,20 @@ fn hough_takes(bins: &[i64], tol: u64) -> bool {
 
 /// Bins, and room for those that the reference takes.
 #[derive(Default)]
-struct Hough {
+pub struct Hough {
     bins: Vec<i64>,
     keyed: Vec<((u32, i64), u32)>,
     reach: Reach,
 }
 
 impl Hough {
-    fn same(&mut self, check: &mut Check, tol: u64) {
+    pub fn put(&mut self, bins: &[((u32, i64), u32)]) {
+        let words = |&((scale, offset), votes)| [i64::from(scale), offset, i64::from(votes)];
+        self.bins.clear();
+        self.bins.extend(bins.iter().flat_map(words));
+    }
+
+    pub fn same(&mut self, check: &mut Check, tol: u64) {
         let Self { bins, keyed, reach } = self;
         let rust = if hough_takes(bins, tol) {
             keyed.clear();

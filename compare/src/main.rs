@@ -20,6 +20,7 @@ mod depot;
 mod floats;
 mod harness;
 mod hough;
+mod large;
 mod matching;
 mod panako;
 mod queries;
@@ -94,6 +95,7 @@ fn main() {
     calls::run(&mut run);
     damage::run(&mut run);
     queries::run(&mut run);
+    large::run(&mut run);
     sheet::run(&mut run);
     replay::run(&mut run);
     stack::run(&mut run);

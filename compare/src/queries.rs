@@ -116,7 +116,7 @@ pub const OPEN: Settings = Settings {
 
 /// Hashes at the rate of the recordings, gates open; scratch is still to be
 /// given.
-fn query(hashes: Vec<u32>, tolerance: u32) -> Query {
+pub fn query(hashes: Vec<u32>, tolerance: u32) -> Query {
     Query {
         hashes,
         rate: RATE,
@@ -128,7 +128,7 @@ fn query(hashes: Vec<u32>, tolerance: u32) -> Query {
 
 impl Query {
     /// With scratch for so many votes.
-    fn with_room<I: Index>(mut self, rng: &mut Rng, votes: usize) -> Self {
+    pub fn with_room<I: Index>(mut self, rng: &mut Rng, votes: usize) -> Self {
         self.scratch = I::VOTE * votes;
         self.fill = rng.next();
         self
@@ -464,7 +464,7 @@ fn every<I: Asked>(
 // ---- a few bins
 
 /// A hash with this key, anchor and, in Panako, span.
-fn hash<I: Index>(key: u32, anchor: u32, span: u32) -> Vec<u32> {
+pub fn hash<I: Index>(key: u32, anchor: u32, span: u32) -> Vec<u32> {
     let words = [key, anchor, anchor + 30, anchor + span];
     words.into_iter().take(I::HASH).collect()
 }

@@ -1,13 +1,13 @@
 //! The list that the program `replay` runs on: calls, what the unchanged index
-//! answers, and what the stores then hold. `crates/replay/src/main.rt` tells
-//! of its lines.
+//! answers to each, and what the store then holds. `crates/replay/src/main.rt`
+//! tells of its lines.
 
 use crate::account::{Account, Call, QUERY_HASHES, Query};
-use crate::calls::{RATE, Source};
+use crate::calls::{RATE, Source, build, insert};
 use crate::capi::Answer;
 use crate::damage;
 use crate::harness::{Check, Rng, Run};
-use crate::queries::{Asked, OPEN, some_other, some_query, some_rates, some_times};
+use crate::queries::{Asked, OPEN, hash, query, some_other, some_query, some_rates, some_times};
 use crate::sheet::{at_root, printed, program};
 use crate::store::{Index, Panako, Sizes, Store, Wang};
 use crate::trial::Met;
@@ -63,8 +63,21 @@ impl List {
         self.slices(['r', 'p', 'k'], store);
     }
 
-    fn call(&mut self, call: &Call, answer: &Answer) {
+    /// A call, its answer, and what the store then holds if it may change it.
+    fn call<I: Index>(&mut self, account: &mut Account<I>, call: &Call) -> Answer {
+        let answer = account.call(call);
         self.calls += 1;
+        self.asked(call);
+        let halves = |&word: &u64| [(word >> 32) as u32, word as u32];
+        let words: Vec<u32> = in_use(&answer).iter().flat_map(halves).collect();
+        self.line('A', &words);
+        if !matches!(call, Call::LiveCount | Call::Query(_)) {
+            self.slices(['R', 'P', 'K'], &account.store);
+        }
+        answer
+    }
+
+    fn asked(&mut self, call: &Call) {
         match call {
             Call::Build {
                 hashes,
@@ -100,9 +113,6 @@ impl List {
                 self.line('Q', &[&fixed, &query.hashes[..]].concat());
             }
         }
-        let halves = |&word: &u64| [(word >> 32) as u32, word as u32];
-        let answer: Vec<u32> = in_use(answer).iter().flat_map(halves).collect();
-        self.line('A', &answer);
     }
 }
 
@@ -128,7 +138,7 @@ fn some_start<I: Index>(rng: &mut Rng, source: &Source<'_>) -> Store {
     store
 }
 
-/// A store, calls on it, and what it then holds.
+/// A store, calls on it, and what it holds at the end.
 fn group<I: Asked>(rng: &mut Rng, list: &mut List, met: &mut Met, source: &Source<'_>, calls: u64) {
     let store = some_start::<I>(rng, source);
     list.lend::<I>(&store);
@@ -143,9 +153,7 @@ fn group<I: Asked>(rng: &mut Rng, list: &mut List, met: &mut Met, source: &Sourc
             }
             _ => some_other(rng, source, &account, &mut heard, turn),
         };
-        let answer = account.call(&call);
-        met.add(&answer);
-        list.call(&call, &answer);
+        met.add(&list.call(&mut account, &call));
     }
     list.slices(['R', 'P', 'K'], &account.store);
 }
@@ -190,8 +198,49 @@ fn longest_queries(list: &mut List) {
             scratch: 0,
             fill: 0,
         });
-        let answer = account.call(&call);
-        list.call(&call, &answer);
+        list.call(&mut account, &call);
+    }
+}
+
+/// As much as the program has room for: the postings of one key at its limit
+/// and above, votes that fill the scratch and one too many, for several
+/// recordings and for one.
+fn fullest<I: Asked>(list: &mut List) {
+    const MOST: usize = 512;
+    const ONE: usize = 32;
+    let hashes = |count: usize, latest: u32| -> Vec<u32> {
+        let one = |i| hash::<I>(7, i % latest, 100);
+        (0..count as u32).flat_map(one).collect()
+    };
+    let insertion = |limit: usize| insert::<I>(hashes(ONE, 1), limit as u32);
+    let heard = |count: usize, less: usize| {
+        Call::Query(Query {
+            scratch: SCRATCH - I::VOTE * less,
+            ..query(hashes(count, 1), 1)
+        })
+    };
+    let votes = SCRATCH / I::VOTE;
+    let many = vec![ONE as u32; MOST / ONE];
+    let full = build::<I>(hashes(MOST, 8), many, MOST as u32);
+    let few = votes / MOST;
+    let calls = [
+        (full, 0),
+        (heard(few, 0), 4),
+        (heard(few, 1), 6),
+        (Call::Remove { id: 3 }, 2),
+        (insertion(MOST - 1), 1),
+        (heard(few, 0), 5),
+        (build::<I>(Vec::new(), Vec::new(), 0), 0),
+        (insertion(ONE), 1),
+        (heard(votes / ONE, 0), 4),
+        (heard(votes / ONE, 1), 6),
+    ];
+    let store = Store::zeroed::<I>(Sizes::new(MOST / ONE, MOST, 1));
+    list.lend::<I>(&store);
+    let mut account = Account::<I>::new(store);
+    for (call, case) in calls {
+        let answer = list.call(&mut account, &call);
+        assert_eq!(answer[0], case, "{call:?}");
     }
 }
 
@@ -200,6 +249,8 @@ fn list() -> List {
     groups::<Wang>(&mut rng, &mut list);
     groups::<Panako>(&mut rng, &mut list);
     longest_queries(&mut list);
+    fullest::<Wang>(&mut list);
+    fullest::<Panako>(&mut list);
     list
 }
 
