@@ -77,6 +77,12 @@ mod raw {
             answer: &mut Answer,
         );
         pub fn hough_panako_peak(bins: *const i64, len: usize, tol: u64, answer: &mut Answer);
+        pub fn sheet_card_sheet_of(
+            card: *const u8,
+            card_len: usize,
+            sheet: *mut u8,
+            sheet_len: usize,
+        ) -> usize;
     }
 }
 
@@ -102,6 +108,11 @@ pub fn hough_panako_peak(bins: &[i64], tol: u64) -> Answer {
     let mut answer = UNANSWERED;
     unsafe { raw::hough_panako_peak(bins.as_ptr(), bins.len(), tol, &mut answer) };
     answer
+}
+
+pub fn sheet_card_sheet_of(card: &[u8], sheet: &mut [u8]) -> usize {
+    let (at, len) = (sheet.as_mut_ptr(), sheet.len());
+    unsafe { raw::sheet_card_sheet_of(card.as_ptr(), card.len(), at, len) }
 }
 
 /// The slices of a store: references, postings, stopped keys.

@@ -17,6 +17,7 @@ mod capi;
 mod consolidate;
 mod damage;
 mod depot;
+mod faults;
 mod floats;
 mod harness;
 mod hough;
@@ -97,6 +98,7 @@ fn main() {
     queries::run(&mut run);
     large::run(&mut run);
     sheet::run(&mut run);
+    faults::run(&mut run);
     replay::run(&mut run);
     stack::run(&mut run);
     let passed = run.end();

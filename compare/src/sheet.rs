@@ -1,9 +1,9 @@
-//! Whole cards through the program `sheet`, and through a sheet written here
-//! over the unchanged index.
+//! Whole cards through the program `sheet`, through the library in memory, and
+//! through a sheet written here over the unchanged index.
 
 use crate::account::{Account, Call, Query};
 use crate::calls::Source;
-use crate::capi::{Answer, Settings};
+use crate::capi::{Answer, Settings, sheet_card_sheet_of};
 use crate::harness::{Check, Rng, Run};
 use crate::queries::{OPEN, hear, some_query, some_rates, some_times};
 use crate::store::{Sizes, Store, Wang};
@@ -33,7 +33,7 @@ pub fn run(run: &mut Run) {
 
 // ---- the sheet of a card, by document 01
 
-fn sheet_of(card: &[u8]) -> String {
+pub fn sheet_of(card: &[u8]) -> String {
     let mut text = String::from("sheet 1\n");
     if card.first() != Some(&1) {
         return text + "X 0\n";
@@ -150,7 +150,12 @@ fn card(calls: &[Call]) -> Vec<u8> {
         .collect()
 }
 
-// ---- both sheets
+/// A card of so many removals of a recording that isn't there.
+pub fn removals(count: usize) -> Vec<u8> {
+    card(&vec![Call::Remove { id: 0 }; count])
+}
+
+// ---- all sheets
 
 /// A path from the repository's root.
 pub fn at_root(path: &str) -> PathBuf {
@@ -185,14 +190,40 @@ pub fn printed(program: &Path, input: &[u8]) -> Vec<u8> {
     output.stdout
 }
 
+/// The sheet of a card in memory, in just the room that is asked for. With a
+/// byte less there is none, and no byte changes.
+fn held(card: &[u8]) -> Vec<u8> {
+    const UNTOUCHED: u8 = 0xA5;
+    let mut room = vec![UNTOUCHED; 128 * (card.len() / 5 + 2)];
+    let short = room.len() - 1;
+    assert_eq!(0, sheet_card_sheet_of(card, &mut room[..short]));
+    assert!(room.iter().all(|&byte| byte == UNTOUCHED));
+    let length = sheet_card_sheet_of(card, &mut room);
+    room.truncate(length);
+    room
+}
+
 /// The lines met, by their first letters; of a refusal, with its number.
 #[derive(Default)]
 struct Lines(BTreeMap<String, u64>);
 
 impl Lines {
-    /// Prints both sheets of a card; ends the run at a difference.
+    /// Makes all sheets of a card; ends the run at a difference.
     fn compare(&mut self, check: &mut Check, program: &Path, card: &[u8]) {
-        let (ours, expected) = (printed(program, card), sheet_of(card));
+        let expected = sheet_of(card);
+        Self::same(check, card, &expected, printed(program, card));
+        Self::same(check, card, &expected, held(card));
+        for line in expected.lines().skip(1) {
+            let told = match line.split(' ').next() {
+                Some("R") => line,
+                Some("M") => &line[line.len() - 1..],
+                first => first.expect("a line isn't empty"),
+            };
+            *self.0.entry(told.to_string()).or_default() += 1;
+        }
+    }
+
+    fn same(check: &mut Check, card: &[u8], expected: &str, ours: Vec<u8>) {
         check.holds(ours == expected.as_bytes(), || {
             let mut text = String::from("  card\n    ");
             card.iter().for_each(|byte| {
@@ -209,14 +240,6 @@ impl Lines {
             let lengths = [ours.len(), expected.len()];
             text + &format!("\n  bytes of the sheets: {lengths:?}\n")
         });
-        for line in expected.lines().skip(1) {
-            let told = match line.split(' ').next() {
-                Some("R") => line,
-                Some("M") => &line[line.len() - 1..],
-                first => first.expect("a line isn't empty"),
-            };
-            *self.0.entry(told.to_string()).or_default() += 1;
-        }
     }
 
     /// Prints the counts; fails where one of these was never met.
