@@ -16,7 +16,8 @@ use Rattle.lists.proofs.Keep.{all-imp, all-map, length-keep}
 use Rattle.lists.proofs.Place.{sorted-keep, sorted-map}
 use Rattle.sorting.specs.Order.{sort}
 use Rattle.sorting.proofs.Order.{length-sort}
-use Rattle.build_ranges.specs.Codes.{ranksFrom, hashCode, codes, inOrder, within, top, least, mostBatches, Fit}
+use Rattle.build_ranges.specs.Codes.{ranksFrom, hashCode, codes, inOrder, within, top, Fit}
+use Rattle.build_ranges.specs.Batches.{least, mostBatches}
 use Rattle.build_ranges.proofs.Ranks.{length-ranks, ranks-small}
 use Rattle.build_ranges.proofs.Sorts.{all-sort, sorted-sort, keep-ranges, keep-below}
 use Rattle.build_stops.specs.Over.{keyIn}

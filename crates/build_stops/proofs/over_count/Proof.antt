@@ -9,7 +9,8 @@ use lib.Dec.{ltb}
 use borrow.Author.Tests.{ltb-true}
 use Rattle.lists.specs.Lists.{keep}
 use Rattle.lists.proofs.Tests.{and-left, and-right}
-use Rattle.build_ranges.specs.Codes.{inOrder, top, within, least}
+use Rattle.build_ranges.specs.Codes.{inOrder, top, within}
+use Rattle.build_ranges.specs.Batches.{least}
 use Rattle.build_ranges.proofs.Widths.{next-width-in}
 use Rattle.build_stops.specs.Over.{keyIn, Counted}
 use Rattle.build_stops.proofs.Over.{counted-none}
