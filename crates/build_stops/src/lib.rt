@@ -60,8 +60,8 @@ fn count_runs(buf: &[i64], n: usize, limit: usize, st: Runs) -> Runs
     Runs { key, run, over }
 }
 
-// How many keys are over the limit. Each batch but the last has 10,240 codes or more, so m hashes, of at most 4,096 * 8,192, make at most m / 10,240 + 1
-// batches: the loop takes no more turns. The first range is tried as if all m were spread evenly.
+// How many keys are over the limit. Each batch but the last has 10,240 codes or more, so m hashes make at most m / 10,240 + 1 batches, and the loop takes no
+// more turns. The first range is tried as if the codes were spread evenly.
 pub fn over_count(hashes: &[u32], v: usize, lengths: &[u32], limit: usize) -> usize
     requires { ⌜ Fit (now hashes) v (now lengths) × (limit < 0x1_0000_0000) ⌝ }
     ensures { λ r. ⌜ r ≡ length (overKeys limit (map keyIn (inOrder (now (hashes .entry)) v (now (lengths .entry))))) ⌝ }
@@ -72,6 +72,7 @@ pub fn over_count(hashes: &[u32], v: usize, lengths: &[u32], limit: usize) -> us
         run: 0,
         over: 0,
     };
+    // no build has more hashes than 4,096 * 8,192
     let m = maps::smaller((hashes.len() / v) as u64, 33554432) as usize;
     let mut left = build_ranges::most_batches(m);
     let mut lo = 0;
