@@ -3,3 +3,4 @@ pub mod Sorts
 pub mod Ranks
 pub mod Held
 pub mod Order
+pub mod Widths

@@ -15,7 +15,7 @@ use Rattle.lists.proofs.Keep.{all-imp, all-both, all-of-key}
 use Rattle.build_ranges.specs.Codes.{inOrder, Fit}
 use Rattle.build_stops.specs.Over.{keyIn, overKeys}
 use Rattle.build_stops.proofs.Over.{member-over, ascending-over}
-use Rattle.build_stops.proofs.Walk.{length-codes}
+use Rattle.build_stops.proofs.Walk.{sum-hashes, length-codes}
 
 -- the keys other than k
 abbrev others : ℕ → List ℕ → List ℕ
@@ -55,6 +55,6 @@ over-room words v lengths limit room fit h =
     let keys : List ℕ = map keyIn (inOrder words v lengths) in
     let many : length keys ≡ sum lengths = length-map (inOrder words v lengths) keyIn ∙ length-codes words v lengths in
     let n = length (overKeys limit keys) in
-    let s : sum lengths ≤ length words / v = le-div-iff-mul-le {k = v} {x = sum lengths} (fit .some) .1 (rw (mul-comm (sum lengths) v) (fit .whole)) in
+    let s = sum-hashes words v lengths fit in
     let k : n ≤ length words / v / (limit + 1) = le-div-iff-mul-le {k = limit + 1} {x = n} (omega arith) .1 (rw (mul-comm n (limit + 1)) (omega (arith, over-few limit keys))) in
     le-ltb room n (omega arith)

@@ -1,17 +1,23 @@
 -- Laws of a walk over all codes in ascending order, a range at a time. Assumes nothing.
 use mathlib.Core.Path.{_≡_, sym, ap, _∙_}
+use mathlib.Core.Bool.{false, _&&_}
 use mathlib.Core.List.{List, [], _∷_, _++_, map}
-use Prim.Native.Nat.{ℕ, _+_, _*_, _≤_, _<_}
+use mathlib.Core.Logic.{⊎-elim}
+use Prim.Native.Nat.{ℕ, _+_, _*_, _-_, _/_, _≤_, _<_}
+use native.Mathlib.Nat.{mul-comm, le-div-iff-mul-le}
 use native.Mathlib.Omega.{arith}
 use lib.ListN.{length, length-append, length-map}
 use lib.Dec.{leb, ltb}
+use borrow.Author.Tests.{lt-ltb, ltb-false}
 use Rattle.lists.specs.Lists.{keep, All, sum}
 use Rattle.lists.specs.Keys.{Sorted}
+use Rattle.lists.proofs.Tests.{test, not-both, le-or-lt}
 use Rattle.lists.proofs.Keep.{all-imp, all-map, length-keep}
 use Rattle.lists.proofs.Place.{sorted-keep, sorted-map}
 use Rattle.sorting.specs.Order.{sort}
 use Rattle.sorting.proofs.Order.{length-sort}
 use Rattle.build_ranges.specs.Codes.{ranksFrom, hashCode, codes, inOrder, within, top, Fit}
+use Rattle.build_ranges.specs.Batches.{least, mostBatches}
 use Rattle.build_ranges.proofs.Ranks.{length-ranks, ranks-small}
 use Rattle.build_ranges.proofs.Sorts.{all-sort, sorted-sort, keep-ranges, keep-below}
 use Rattle.build_stops.specs.Over.{keyIn}
@@ -23,6 +29,19 @@ sum-short (n ∷ ls) a = let ih = sum-short ls (a .1) in let h = a .0 in omega a
 
 pub sum-few : (words : List ℕ) (v : ℕ) (lengths : List ℕ) → Fit words v lengths → sum lengths ≤ 33554432
 sum-few words v lengths fit = let few = fit .recordings in omega (arith, sum-short lengths (fit .short))
+
+pub sum-hashes : (words : List ℕ) (v : ℕ) (lengths : List ℕ) → Fit words v lengths → sum lengths ≤ length words / v
+sum-hashes words v lengths fit = le-div-iff-mul-le {k = v} {x = sum lengths} (fit .some) .1 (rw (mul-comm (sum lengths) v) (fit .whole))
+
+-- each batch but the last has `least` codes or more, so after as many batches as m hashes can be, none is left
+pub batches-end : (m all left lo k : ℕ) → all ≡ mostBatches m → (lo < top → least * (all - left) ≤ k) → k ≤ m → ltb 0 left && ltb lo top ≡ false → top ≤ lo
+unfolding mostBatches
+batches-end m all left lo k most bound few e =
+    ⊎-elim (λ (h : top ≤ lo). h)
+    (λ (h : lo < top).
+    let none : left ≤ 0 = test (ltb 0 left) (λ a. absurd (not-both (rw (a, lt-ltb lo top h)) e)) (λ a. ltb-false 0 left a) in
+    absurd (omega (arith, most, bound h)))
+    (le-or-lt top lo)
 
 module _ (words : List ℕ) (v : ℕ) (lengths : List ℕ) where
   abbrev pub W : List ℕ

@@ -60,7 +60,8 @@ fn count_runs(buf: &[i64], n: usize, limit: usize, st: Runs) -> Runs
     Runs { key, run, over }
 }
 
-// How many keys are over the limit.
+// How many keys are over the limit. Each batch but the last has 10,240 codes or more, so m hashes make at most m / 10,240 + 1 batches, and the loop takes no
+// more turns. The first range is tried as if the codes were spread evenly.
 pub fn over_count(hashes: &[u32], v: usize, lengths: &[u32], limit: usize) -> usize
     requires { ⌜ Fit (now hashes) v (now lengths) × (limit < 0x1_0000_0000) ⌝ }
     ensures { λ r. ⌜ r ≡ length (overKeys limit (map keyIn (inOrder (now (hashes .entry)) v (now (lengths .entry))))) ⌝ }
@@ -71,14 +72,18 @@ pub fn over_count(hashes: &[u32], v: usize, lengths: &[u32], limit: usize) -> us
         run: 0,
         over: 0,
     };
+    // no build has more hashes than 4,096 * 8,192
+    let m = maps::smaller((hashes.len() / v) as u64, 33554432) as usize;
+    let mut left = build_ranges::most_batches(m);
     let mut lo = 0;
-    let mut width = 0x200_0000_0000_0000;
-    while lo < 0x200_0000_0000_0000 {
+    let mut width = build_ranges::next_width(build_ranges::TOP, m);
+    while (0 < left) & (lo < build_ranges::TOP) {
         let g = build_ranges::batch(&mut buf, hashes, v, lengths, lo, width);
         let n = g.n;
         st = count_runs(&buf, n, limit, st);
         width = build_ranges::next_width(g.hi - lo, n);
         lo = g.hi;
+        left -= 1;
     }
     st.over
 }

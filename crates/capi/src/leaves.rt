@@ -1,7 +1,7 @@
 // The leaves of the two queries, for comparison with the reference. The answer's first word is the
 // case, 0 where the arguments lie beyond the limits; the others are its values, unused ones 0.
 ghost use mathlib.Core.Path.{_≡_};
-ghost use mathlib.Core.Bool.{true};
+ghost use mathlib.Core.Bool.{true, false};
 ghost use Prim.Native.Nat.{_+_, _/_};
 ghost use lib.ListN.{length, take, drop};
 ghost use Rattle.sorting.specs.Sort.{sortZ};
@@ -25,6 +25,7 @@ pub extern "C" fn sorting_sort_words(words: &mut [i64], n: usize) -> u32
     ensures { λ r. ⌜ r ≡ flag (roomFor n (now (words .entry))) ⌝ }
     ensures sorted { λ _. ⌜ (roomFor n (now (words .entry)) ≡ true → (take n (now (words .exit)) ≡ sortZ (take n (now (words .entry))))
         × (drop (n + n) (now (words .exit)) ≡ drop (n + n) (now (words .entry)))) ⌝ }
+    ensures unchanged { λ _. ⌜ (roomFor n (now (words .entry)) ≡ false → now (words .exit) ≡ now (words .entry)) ⌝ }
 {
     if n <= words.len() / 2 {
         sorting::sort_words(words, n);
