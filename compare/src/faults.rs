@@ -68,8 +68,14 @@ fn terminal(raw: bool) -> Terminal {
     assert!(user >= 0 && c::grantpt(user) == 0 && c::unlockpt(user) == 0);
     let mut name = [0; 64];
     // SAFETY: `name` has the length that is told.
-    assert_eq!(0, unsafe { c::ptsname_r(user, name.as_mut_ptr(), name.len()) });
-    let name: Vec<u8> = name.iter().map(|&b| b as u8).take_while(|&b| b != 0).collect();
+    assert_eq!(0, unsafe {
+        c::ptsname_r(user, name.as_mut_ptr(), name.len())
+    });
+    let name: Vec<u8> = name
+        .iter()
+        .map(|&b| b as u8)
+        .take_while(|&b| b != 0)
+        .collect();
     let program = OpenOptions::new()
         .read(true)
         .write(true)
@@ -162,7 +168,15 @@ fn line(side: &str, error: i32) -> String {
 
 /// What was printed is the beginning of the sheet in whole lines, at least so
 /// many, without the last one; and this was said.
-fn cut(check: &mut Check, what: &str, card: &[u8], lines: usize, printed: &[u8], said: &str, expected: &str) {
+fn cut(
+    check: &mut Check,
+    what: &str,
+    card: &[u8],
+    lines: usize,
+    printed: &[u8],
+    said: &str,
+    expected: &str,
+) {
     let whole = sheet_of(card);
     let printed = String::from_utf8_lossy(printed);
     let last = whole.trim_end().rfind('\n').expect("it has two lines") + 1;
@@ -185,13 +199,36 @@ fn piped(card: &[u8]) -> (PipeReader, std::io::PipeWriter) {
 
 fn writes_that_fail(check: &mut Check) {
     let card = removals(3);
-    let full = || OpenOptions::new().write(true).open("/dev/full").expect("/dev/full opens");
+    let full = || {
+        OpenOptions::new()
+            .write(true)
+            .open("/dev/full")
+            .expect("/dev/full opens")
+    };
     let (said, _) = ended(start(sheet(piped(&card).0, full())));
-    cut(check, "/dev/full", &card, 0, &[], &said, &line(OUTPUT, c::ENOSPC));
+    cut(
+        check,
+        "/dev/full",
+        &card,
+        0,
+        &[],
+        &said,
+        &line(OUTPUT, c::ENOSPC),
+    );
 
-    let closed = prepared(sheet(piped(&card).0, Stdio::null()), || drop(c::close(1)));
+    let closed = prepared(sheet(piped(&card).0, Stdio::null()), || {
+        c::close(1);
+    });
     let (said, _) = ended(start(closed));
-    cut(check, "closed", &card, 0, &[], &said, &line(OUTPUT, c::EBADF));
+    cut(
+        check,
+        "closed",
+        &card,
+        0,
+        &[],
+        &said,
+        &line(OUTPUT, c::EBADF),
+    );
 
     // A pipe that nobody reads: by default the system ends the program.
     let unread = |prepare: fn()| {
@@ -205,8 +242,18 @@ fn writes_that_fail(check: &mut Check) {
     check.holds(said.is_empty() && signal == Some(c::SIGPIPE), || {
         format!("  unread pipe: said {said:?}, signal {signal:?}\n")
     });
-    let (said, _) = unread(|| drop(c::signal(c::SIGPIPE, c::SIG_IGN)));
-    cut(check, "unread pipe", &card, 0, &[], &said, &line(OUTPUT, c::EPIPE));
+    let (said, _) = unread(|| {
+        c::signal(c::SIGPIPE, c::SIG_IGN);
+    });
+    cut(
+        check,
+        "unread pipe",
+        &card,
+        0,
+        &[],
+        &said,
+        &line(OUTPUT, c::EPIPE),
+    );
 
     // A full pipe that doesn't wait, read only afterwards.
     for records in [20_000, 60_000] {
@@ -219,13 +266,29 @@ fn writes_that_fail(check: &mut Check) {
         feeder.join().expect("the card was handed over");
         let mut printed = Vec::new();
         reader.read_to_end(&mut printed).expect("the pipe is read");
-        cut(check, "full pipe", &card, 8000, &printed, &said, &line(OUTPUT, c::EAGAIN));
+        cut(
+            check,
+            "full pipe",
+            &card,
+            8000,
+            &printed,
+            &said,
+            &line(OUTPUT, c::EAGAIN),
+        );
     }
 
     let Terminal { user, program } = terminal(true);
     drop(user);
     let (said, _) = ended(start(sheet(piped(&card).0, program)));
-    cut(check, "terminal", &card, 0, &[], &said, &line(OUTPUT, c::EIO));
+    cut(
+        check,
+        "terminal",
+        &card,
+        0,
+        &[],
+        &said,
+        &line(OUTPUT, c::EIO),
+    );
 }
 
 // ---- reads
@@ -239,9 +302,29 @@ fn reads_that_fail(check: &mut Check) {
         (printed, said)
     };
     let (printed, said) = output(|to| sheet(File::open("/").expect("a folder opens"), to));
-    cut(check, "folder", &[], 1, &printed, &said, &line(INPUT, c::EISDIR));
-    let (printed, said) = output(|to| prepared(sheet(Stdio::null(), to), || drop(c::close(0))));
-    cut(check, "closed", &[], 1, &printed, &said, &line(INPUT, c::EBADF));
+    cut(
+        check,
+        "folder",
+        &[],
+        1,
+        &printed,
+        &said,
+        &line(INPUT, c::EISDIR),
+    );
+    let (printed, said) = output(|to| {
+        prepared(sheet(Stdio::null(), to), || {
+            c::close(0);
+        })
+    });
+    cut(
+        check,
+        "closed",
+        &[],
+        1,
+        &printed,
+        &said,
+        &line(INPUT, c::EBADF),
+    );
 
     // A pipe that doesn't wait, with the beginning of a card: every length of it.
     let card = removals(3);
@@ -254,7 +337,15 @@ fn reads_that_fail(check: &mut Check) {
         let mut printed = Vec::new();
         from.read_to_end(&mut printed).expect("the pipe is read");
         let lines = 1 + length.saturating_sub(1) / 9;
-        cut(check, "empty pipe", &card, lines, &printed, &said, &line(INPUT, c::EAGAIN));
+        cut(
+            check,
+            "empty pipe",
+            &card,
+            lines,
+            &printed,
+            &said,
+            &line(INPUT, c::EAGAIN),
+        );
     }
 }
 
@@ -271,12 +362,24 @@ fn terminals_that_hang_up(check: &mut Check) {
             user.write_all(&card[..length]).expect("it is typed");
             let child = start(sheet(program, to));
             let least = if wait { lines } else { 1 };
-            let first: usize = sheet_of(&card).lines().take(least).map(|l| l.len() + 1).sum();
+            let first: usize = sheet_of(&card)
+                .lines()
+                .take(least)
+                .map(|l| l.len() + 1)
+                .sum();
             let mut printed = wait_for(&mut from, first);
             drop(user);
             let (said, _) = ended(child);
             printed.extend(wait_for(&mut from, usize::MAX));
-            cut(check, "terminal", &card, least, &printed, &said, &line(INPUT, c::EIO));
+            cut(
+                check,
+                "terminal",
+                &card,
+                least,
+                &printed,
+                &said,
+                &line(INPUT, c::EIO),
+            );
         }
         let Terminal { user, program } = terminal(true);
         drop(user);
@@ -284,7 +387,15 @@ fn terminals_that_hang_up(check: &mut Check) {
         let (said, _) = ended(start(sheet(program, to)));
         let mut printed = Vec::new();
         from.read_to_end(&mut printed).expect("the pipe is read");
-        cut(check, "no terminal", &card, 1, &printed, &said, &line(INPUT, c::EIO));
+        cut(
+            check,
+            "no terminal",
+            &card,
+            1,
+            &printed,
+            &said,
+            &line(INPUT, c::EIO),
+        );
     }
 }
 
