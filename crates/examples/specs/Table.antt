@@ -39,7 +39,7 @@ pub data Example : Type 0 where
   modeOf : List ℤ → ℤ → Example
   -- bins (scale, offset, count), tolerance; then peak, the index of its bin, frames, prominence
   hough : List ℤ → ℕ → ℕ → ℕ → ℤ → ℕ → Example
-  -- calls on a store that begins zeroed, each an insert (none) or the removal of an id; the ids that the inserts get
+  -- calls on a store that begins zeroed, each an insert (none) or the removal of an id; the ids that the inserts get in either index
   ids : List (Option ℕ) → List ℕ → Example
   -- Wang prominence of a peak, a total and a width
   prominence : ℕ → ℕ → ℕ → ℕ → Example
@@ -78,9 +78,9 @@ sameIds [] (y ∷ ys) = false
 sameIds (x ∷ xs) [] = false
 sameIds (x ∷ xs) (y ∷ ys) = eqb x y && sameIds xs ys
 
--- R 4, P 1, K 1
-abbrev zeroed : Words
-zeroed = record { references = replicate (headWidth + rowWidth * 4) 0; postings = replicate 3 0; stopped = replicate 1 0 }
+-- R 4, P 1, K 1, with postings of w words
+abbrev zeroed : ℕ → Words
+zeroed w = record { references = replicate (headWidth + rowWidth * 4) 0; postings = replicate w 0; stopped = replicate 1 0 }
 
 abbrev storedIds : Answer → List ℕ
 storedIds built = []
@@ -91,11 +91,15 @@ storedIds (best id r) = []
 storedIds nothing = []
 storedIds (refused n) = []
 
--- Wang's store; each recording is one without hashes
-unfoldable pub idsGiven : Words → List (Option ℕ) → List ℕ
-idsGiven m [] = []
-idsGiven m (none ∷ calls) = let o = runInsert 3 m 100 0 [] in storedIds (o .0) ++ idsGiven (o .1) calls
-idsGiven m (some id ∷ calls) = idsGiven (runRemove 3 m id .1) calls
+-- each recording is one without hashes
+unfoldable pub idsGiven : ℕ → Words → List (Option ℕ) → List ℕ
+idsGiven w m [] = []
+idsGiven w m (none ∷ calls) = let o = runInsert w m 100 0 [] in storedIds (o .0) ++ idsGiven w (o .1) calls
+idsGiven w m (some id ∷ calls) = idsGiven w (runRemove w m id .1) calls
+
+-- where a posting has w words
+abbrev givenAt : ℕ → List (Option ℕ) → List ℕ → Bool
+givenAt w calls given = sameIds (idsGiven w (zeroed w) calls) given
 
 unfoldable pub right : Example → Bool
 right (rates a b agree) = Bool·beq (ratesAgree (single a) (single b)) agree
@@ -108,7 +112,8 @@ right (hough bins tol peak at frames word) =
     let p = houghPeak bins (binsIn 3 bins) tol in
     (eqb (p .votes) peak && eqb (p .at) at)
     && (sameℤ (peakOffset bins (binsIn 3 bins) tol (p .at)) frames && is32 (Hough.prominence bins (binsIn 3 bins) tol (p .votes) (p .at)) word)
-right (ids calls given) = sameIds (idsGiven zeroed calls) given
+-- "Wang 3 words .., Panako 5"
+right (ids calls given) = givenAt 3 calls given && givenAt 5 calls given
 right (prominence peak total width word) = is32 (wangProminence peak total width) word
 right (score n hashes word) = is32 (scoreOf n hashes) word
 right (scale min max bins bin word) = is32 (timeScale (binCentre (single min) (perBin (single min) (single max) bins) bin)) word
