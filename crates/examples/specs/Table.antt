@@ -19,7 +19,9 @@ use Rattle.hough.specs.Hough.{houghPeak, peakOffset}
 use Rattle.model.specs.Calls.{Answer, built, stored, removed, count, best, nothing, refused}
 use Rattle.model.specs.Words.{Words, headWidth, rowWidth}
 use Rattle.model.specs.Run.{runInsert, runRemove}
-use Rattle.matching.specs.Offsets.{millis}
+use Rattle.matching.specs.declared.TriedOffset.{TriedOffset}
+use Rattle.matching.specs.declared.TriedOffset.the-variants as tried-offset
+use Rattle.matching.specs.Offsets.{millis, tryFromFrames}
 use Rattle.matching.specs.Rates.{ratesAgree}
 use Rattle.matching.specs.Scores.{wangProminence, scoreOf}
 use Rattle.matching.specs.Scales.{perBin, binCentre, timeScale}
@@ -29,6 +31,8 @@ pub data Example : Type 0 where
   rates : ℕ → ℕ → Bool → Example
   -- frames at a rate, in milliseconds
   inMillis : ℤ → ℕ → ℤ → Example
+  -- the same, none where they don't fit
+  triedMillis : ℤ → ℕ → Option ℤ → Example
   -- a whole number, and the whole number whose f32 it becomes
   becomes : ℕ → ℕ → Example
   -- an f64, and the i64 that it is rounded to
@@ -64,6 +68,12 @@ is32 x word = eqb (toBits binary32 x) word
 abbrev isAt : Mode → ℤ → Bool
 isAt Nothing z = false
 isAt (Offset d) z = sameℤ d z
+
+abbrev isTried : TriedOffset → ℤ → Option ℤ → Bool
+isTried tried-offset.Nothing frames none = true
+isTried tried-offset.Nothing frames (some ms) = false
+isTried (tried-offset.Offset t) frames none = false
+isTried (tried-offset.Offset t) frames (some ms) = sameℤ (t .frames) frames && sameℤ (t .ms) ms
 
 -- how many bins of so many words the list has
 abbrev binsIn : ℕ → List ℤ → ℕ
@@ -104,6 +114,7 @@ givenAt w calls given = sameIds (idsGiven w (zeroed w) calls) given
 unfoldable pub right : Example → Bool
 right (rates a b agree) = Bool·beq (ratesAgree (single a) (single b)) agree
 right (inMillis frames rate ms) = sameℤ (millis frames (single rate)) ms
+right (triedMillis frames rate ms) = isTried (tryFromFrames frames (single rate)) frames ms
 right (becomes n m) = is32 (ofInt binary32 (pos n)) (toBits binary32 (ofInt binary32 (pos m))) && sameℤ (roundToI64 (ofInt binary32 (pos n))) (pos m)
 right (roundsTo x z) = sameℤ (roundToI64 (ofBits binary64 x)) z
 right (sweep bins tol low high peak centre mode total) = samePeak (boxPeak bins (binsIn 2 bins) tol low high) peak centre mode total
@@ -152,6 +163,17 @@ table =
     ∷ roundsTo 0x3FDF_FFFF_FFFF_FFFF (pos 0)
     ∷ roundsTo 0x43E0_0000_0000_0000 (pos 9223372036854775807)
     ∷ roundsTo 0x7FF8_0000_0000_0000 (pos 0)
+    -- the ends of an i64 at rate 1000: −2^63 fits; 2^63 − 1, which is 2^63 as an f64, doesn't; 2^63 − 513 is the last that becomes a smaller one
+    ∷ triedMillis (negsuc 9223372036854775807) 0x447A_0000 (some (negsuc 9223372036854775807))
+    ∷ triedMillis (pos 9223372036854775807) 0x447A_0000 none
+    ∷ triedMillis (pos 9223372036854775295) 0x447A_0000 (some (pos 9223372036854774784))
+    -- half a millisecond; the smallest positive rate; rates 0, −62.5, infinite, a NaN
+    ∷ triedMillis (negsuc 0) 0x44FA_0000 (some (negsuc 0))
+    ∷ triedMillis (pos 1) 0x0000_0001 none
+    ∷ triedMillis (pos 1) 0x0000_0000 none
+    ∷ triedMillis (pos 1) 0xC27A_0000 none
+    ∷ triedMillis (pos 1) 0x7F80_0000 none
+    ∷ triedMillis (pos 1) 0x7FC0_0000 none
     -- a lone peak of 2; a background of 16,777,217, which rounds; a width of 1
     ∷ prominence 2 2 10 0x4000_0000
     ∷ prominence 1 16777218 3 0x33FF_FFFE
