@@ -16,6 +16,7 @@ unsafe extern "C" {
     pub safe fn floats_clamp_f64(x: u64, lo: u64, hi: u64) -> u64;
 
     pub safe fn matching_from_frames(frames: i64, rate: u32, answer: &mut [i64; 2]);
+    pub safe fn matching_try_from_frames(frames: i64, rate: u32, answer: &mut [i64; 3]);
     pub safe fn matching_frames_per_sec_compatible(a: u32, b: u32) -> u32;
     pub safe fn matching_clamp_score(s: u32) -> u32;
     pub safe fn matching_below_threshold(value: u32, threshold: u32) -> u32;

@@ -13,6 +13,7 @@ use audiofp::matching::{
 
 pub fn run(run: &mut Run) {
     run.check("matching_from_frames", from_frames);
+    run.check("matching_try_from_frames", try_from_frames);
     run.check("matching_frames_per_sec_compatible", compatible);
     run.check("matching_clamp_score", score_held);
     run.check("matching_below_threshold", below_threshold);
@@ -29,7 +30,7 @@ pub fn run(run: &mut Run) {
 }
 
 fn from_frames(check: &mut Check) {
-    let same = |check: &mut Check, frames: i64, rate: u32| {
+    frames_at_rates(check, |check, frames, rate| {
         let rust = TimeOffset::from_frames(frames, f32::from_bits(rate));
         let mut ours = [0; 2];
         capi::matching_from_frames(frames, rate, &mut ours);
@@ -38,7 +39,31 @@ fn from_frames(check: &mut Check) {
             &ours.map(|word| word as u64),
             &[rust.frames as u64, rust.ms as u64],
         );
-    };
+    });
+}
+
+fn try_from_frames(check: &mut Check) {
+    let mut none = 0_u64;
+    frames_at_rates(check, |check, frames, rate| {
+        let rust = match TimeOffset::try_from_frames(frames, f32::from_bits(rate)) {
+            Some(offset) => [1, offset.frames, offset.ms],
+            None => [0; 3],
+        };
+        none += u64::from(rust[0] == 0);
+        let mut ours = [-1; 3];
+        capi::matching_try_from_frames(frames, rate, &mut ours);
+        check.same(
+            &[frames as u64, rate.into()],
+            &ours.map(|word| word as u64),
+            &rust.map(|word| word as u64),
+        );
+    });
+    check.note(format!("{none} without a time"));
+}
+
+/// Frames and rates: the ends of their types, small ones, milliseconds that
+/// are halves, those at the ends of an i64, and random ones.
+fn frames_at_rates(check: &mut Check, mut same: impl FnMut(&mut Check, i64, u32)) {
     let ends: Vec<i64> = whole(64).into_iter().map(|n| n as i64).collect();
     for rate in many32() {
         for &frames in &ends {
@@ -51,6 +76,25 @@ fn from_frames(check: &mut Check) {
         1.0_f32, 16.0, 62.5, 125.0, 999.0, 1000.0, 2000.0, 16_000.0, 48_000.0, 64_000.0,
     ] {
         (-20_000..=20_000).for_each(|frames| same(check, frames, rate.to_bits()));
+    }
+    // 2^63 milliseconds, and numbers next to them.
+    for k in 0..63 {
+        let rate = (1000.0 * 2.0_f32.powi(k - 63)).to_bits();
+        for near in -2_000..=2_000 {
+            same(check, (1 << k) + near, rate);
+            same(check, -(1 << k) + near, rate);
+        }
+    }
+    for _ in check.times(300_000) {
+        let rate = match check.rng.below(2) {
+            0 => (1000.0 * check.rng.unit()) as f32,
+            _ => f32::from_bits(check.rng.float32()),
+        };
+        let edge = 2.0_f64.powi(63) * f64::from(rate) / 1000.0;
+        let frames = f64::from_bits(check.rng.near64(edge.to_bits())) as i64;
+        let frames = frames.saturating_add(check.rng.below(5) as i64 - 2);
+        same(check, frames, rate.to_bits());
+        same(check, frames.saturating_neg(), rate.to_bits());
     }
     for _ in check.times(1_000_000) {
         let frames = check.rng.sized(64) as i64;

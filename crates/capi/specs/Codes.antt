@@ -7,6 +7,8 @@ use lib.Dec.{leb}
 use lib.Ieee.{Float, binary32, binary64, ofBits, toBits, le}
 use Rattle.floats.specs.Words.{nanWord}
 use Rattle.floats.specs.Rounding.{narrow}
+use Rattle.matching.specs.declared.TriedOffset.{TriedOffset}
+use Rattle.matching.specs.declared.TriedOffset.the-variants.{Nothing, Offset}
 use Rattle.matching.specs.declared.Ordering.{Ordering}
 use Rattle.matching.specs.declared.Ordering.the-variants.{Less, Equal, Greater}
 use Rattle.matching.specs.Results.{compareDesc, thenBy}
@@ -49,6 +51,11 @@ prominenceCode peak total width = cond (leb peak total) (toBits binary32 (wangPr
 -- the time scale of a peak in a scale bin
 abbrev pub timeScaleCode : Float → Float → ℕ → ℕ → ℕ
 timeScaleCode min max bins bin = toBits binary32 (timeScale (binCentre min (perBin min max bins) bin))
+
+-- an offset that was tried: whether there is one, its frames, its milliseconds
+abbrev pub triedWords : TriedOffset → List ℤ
+triedWords Nothing = pos 0 ∷ pos 0 ∷ pos 0 ∷ []
+triedWords (Offset t) = pos 1 ∷ t .frames ∷ t .ms ∷ []
 
 -- `MatchResult::NONE`: the time scale is 1.0, all else is 0
 abbrev pub noMatchWords : List ℕ

@@ -10,13 +10,14 @@ ghost use lib.IntN.{pos};
 ghost use lib.Ieee.{binary32, binary64, ofBits, toBits, ofInt};
 ghost use Rattle.floats.specs.Rounding.{roundToI64};
 ghost use Rattle.floats.specs.Selection.{abs, maximum, clamp};
-ghost use Rattle.matching.specs.Offsets.{millis};
+ghost use Rattle.matching.specs.Offsets.{millis, tryFromFrames};
 ghost use Rattle.matching.specs.Rates.{ratesAgree};
 ghost use Rattle.matching.specs.Scores.{clampScore, belowThreshold, scoreOf};
-ghost use Rattle.capi.specs.Codes.{single, double, flag, orderCode, narrowCode, prominenceCode, compareCode, timeScaleCode, twosComplement, noMatchWords};
+ghost use Rattle.capi.specs.Codes.{single, double, flag, orderCode, narrowCode, prominenceCode, compareCode, timeScaleCode, twosComplement, triedWords, noMatchWords};
 use matching::MatchResult;
 use matching::Ordering;
 use matching::TimeOffset;
+use matching::TriedOffset;
 
 // 1 or 0.
 fn flag_of(b: bool) -> u32
@@ -110,6 +111,23 @@ pub extern "C" fn matching_from_frames(frames: i64, rate: u32, answer: &mut [i64
     let t = TimeOffset::from_frames(frames, floats::f32_from_bits(rate));
     let ms = t.ms;
     *answer = [frames, ms];
+}
+
+// 1, the frames, the milliseconds; zeros where there is no such time.
+#[no_mangle]
+pub extern "C" fn matching_try_from_frames(frames: i64, rate: u32, answer: &mut [i64; 3])
+    ensures { λ _. ⌜ now (answer .exit) ≡ triedWords (tryFromFrames frames (single rate)) ⌝ }
+{
+    match TimeOffset::try_from_frames(frames, floats::f32_from_bits(rate)) {
+        TriedOffset::Nothing => {
+            *answer = [0, 0, 0];
+        }
+        TriedOffset::Offset(t) => {
+            let offset = t.frames;
+            let ms = t.ms;
+            *answer = [1, offset, ms];
+        }
+    }
 }
 
 #[no_mangle]

@@ -8,7 +8,7 @@ use Rattle.consolidate.specs.Runs.{firstGreatest, runEnd}
 use Rattle.consolidate.specs.Modes.{mode}
 use Rattle.consolidate.specs.Box.{window, modeNear, peakOver, boxPeak}
 use Rattle.hough.specs.Hough.{houghSum, houghPeak, merged, peakOffset, farSum, farCount, prominence}
-use Rattle.matching.specs.Offsets.{millis}
+use Rattle.matching.specs.Offsets.{millis, inI64, tryFromFrames}
 use Rattle.matching.specs.Rates.{ratesAgree}
 use Rattle.matching.specs.Scores.{clampScore, wangProminence, scoreOf}
 use Rattle.matching.specs.Scales.{perBin, binCentre, timeScale}
@@ -26,5 +26,5 @@ use Rattle.model.specs.Run.{storeOf, runInsert, runRemove}
 use Rattle.examples.specs.Table.{idsGiven, right, all, table}
 
 pub all-right : T (all right table)
-unfolding right idsGiven runInsert runRemove storeOf slicesListed sizesListed sizesOf soundWords soundTests countsFit liveWord stoppedStep deadRow otherEntry vacantEntry deadFine rateFine liveId postingLive anchorFine rmaxFine otherKey keyUnstopped entryUnused readIndex write rowEntries every count allTrue entries keysAscend zeroWord zeroFrom padded keep some? flat insertKey placeAll insertStep removeStep insertTests plainTests inserted erased exceeds stopKeys hashesOf malformed rowOf canonical isCanonical largestAnchor nanBits sumTo sumToℤ greatest first firstGreatest runEnd mode window modeNear peakOver boxPeak houghSum houghPeak merged peakOffset farSum farCount prominence ratesAgree millis roundToI64 narrow abs maximum clampScore wangProminence scoreOf perBin binCentre timeScale add sub mul div le lt ofInt ofBits toBits isNan round
+unfolding right idsGiven runInsert runRemove storeOf slicesListed sizesListed sizesOf soundWords soundTests countsFit liveWord stoppedStep deadRow otherEntry vacantEntry deadFine rateFine liveId postingLive anchorFine rmaxFine otherKey keyUnstopped entryUnused readIndex write rowEntries every count allTrue entries keysAscend zeroWord zeroFrom padded keep some? flat insertKey placeAll insertStep removeStep insertTests plainTests inserted erased exceeds stopKeys hashesOf malformed rowOf canonical isCanonical largestAnchor nanBits sumTo sumToℤ greatest first firstGreatest runEnd mode window modeNear peakOver boxPeak houghSum houghPeak merged peakOffset farSum farCount prominence ratesAgree millis inI64 tryFromFrames roundToI64 narrow abs maximum clampScore wangProminence scoreOf perBin binCentre timeScale add sub mul div le lt ofInt ofBits toBits isNan round
 all-right = tt

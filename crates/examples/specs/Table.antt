@@ -19,7 +19,9 @@ use Rattle.hough.specs.Hough.{houghPeak, peakOffset}
 use Rattle.model.specs.Calls.{Answer, built, stored, removed, count, best, nothing, refused}
 use Rattle.model.specs.Words.{Words, headWidth, rowWidth}
 use Rattle.model.specs.Run.{runInsert, runRemove}
-use Rattle.matching.specs.Offsets.{millis}
+use Rattle.matching.specs.declared.TriedOffset.{TriedOffset}
+use Rattle.matching.specs.declared.TriedOffset.the-variants as tried-offset
+use Rattle.matching.specs.Offsets.{millis, tryFromFrames}
 use Rattle.matching.specs.Rates.{ratesAgree}
 use Rattle.matching.specs.Scores.{wangProminence, scoreOf}
 use Rattle.matching.specs.Scales.{perBin, binCentre, timeScale}
@@ -29,6 +31,8 @@ pub data Example : Type 0 where
   rates : ℕ → ℕ → Bool → Example
   -- frames at a rate, in milliseconds
   inMillis : ℤ → ℕ → ℤ → Example
+  -- the same, none where they don't fit
+  triedMillis : ℤ → ℕ → Option ℤ → Example
   -- a whole number, and the whole number whose f32 it becomes
   becomes : ℕ → ℕ → Example
   -- an f64, and the i64 that it is rounded to
@@ -39,7 +43,7 @@ pub data Example : Type 0 where
   modeOf : List ℤ → ℤ → Example
   -- bins (scale, offset, count), tolerance; then peak, the index of its bin, frames, prominence
   hough : List ℤ → ℕ → ℕ → ℕ → ℤ → ℕ → Example
-  -- calls on a store that begins zeroed, each an insert (none) or the removal of an id; the ids that the inserts get
+  -- calls on a store that begins zeroed, each an insert (none) or the removal of an id; the ids that the inserts get in either index
   ids : List (Option ℕ) → List ℕ → Example
   -- Wang prominence of a peak, a total and a width
   prominence : ℕ → ℕ → ℕ → ℕ → Example
@@ -65,6 +69,12 @@ abbrev isAt : Mode → ℤ → Bool
 isAt Nothing z = false
 isAt (Offset d) z = sameℤ d z
 
+abbrev isTried : TriedOffset → ℤ → Option ℤ → Bool
+isTried tried-offset.Nothing frames none = true
+isTried tried-offset.Nothing frames (some ms) = false
+isTried (tried-offset.Offset t) frames none = false
+isTried (tried-offset.Offset t) frames (some ms) = sameℤ (t .frames) frames && sameℤ (t .ms) ms
+
 -- how many bins of so many words the list has
 abbrev binsIn : ℕ → List ℤ → ℕ
 binsIn words bins = length bins / words
@@ -78,9 +88,9 @@ sameIds [] (y ∷ ys) = false
 sameIds (x ∷ xs) [] = false
 sameIds (x ∷ xs) (y ∷ ys) = eqb x y && sameIds xs ys
 
--- R 4, P 1, K 1
-abbrev zeroed : Words
-zeroed = record { references = replicate (headWidth + rowWidth * 4) 0; postings = replicate 3 0; stopped = replicate 1 0 }
+-- R 4, P 1, K 1, with postings of w words
+abbrev zeroed : ℕ → Words
+zeroed w = record { references = replicate (headWidth + rowWidth * 4) 0; postings = replicate w 0; stopped = replicate 1 0 }
 
 abbrev storedIds : Answer → List ℕ
 storedIds built = []
@@ -91,15 +101,20 @@ storedIds (best id r) = []
 storedIds nothing = []
 storedIds (refused n) = []
 
--- Wang's store; each recording is one without hashes
-unfoldable pub idsGiven : Words → List (Option ℕ) → List ℕ
-idsGiven m [] = []
-idsGiven m (none ∷ calls) = let o = runInsert 3 m 100 0 [] in storedIds (o .0) ++ idsGiven (o .1) calls
-idsGiven m (some id ∷ calls) = idsGiven (runRemove 3 m id .1) calls
+-- each recording is one without hashes
+unfoldable pub idsGiven : ℕ → Words → List (Option ℕ) → List ℕ
+idsGiven w m [] = []
+idsGiven w m (none ∷ calls) = let o = runInsert w m 100 0 [] in storedIds (o .0) ++ idsGiven w (o .1) calls
+idsGiven w m (some id ∷ calls) = idsGiven w (runRemove w m id .1) calls
+
+-- where a posting has w words
+abbrev givenAt : ℕ → List (Option ℕ) → List ℕ → Bool
+givenAt w calls given = sameIds (idsGiven w (zeroed w) calls) given
 
 unfoldable pub right : Example → Bool
 right (rates a b agree) = Bool·beq (ratesAgree (single a) (single b)) agree
 right (inMillis frames rate ms) = sameℤ (millis frames (single rate)) ms
+right (triedMillis frames rate ms) = isTried (tryFromFrames frames (single rate)) frames ms
 right (becomes n m) = is32 (ofInt binary32 (pos n)) (toBits binary32 (ofInt binary32 (pos m))) && sameℤ (roundToI64 (ofInt binary32 (pos n))) (pos m)
 right (roundsTo x z) = sameℤ (roundToI64 (ofBits binary64 x)) z
 right (sweep bins tol low high peak centre mode total) = samePeak (boxPeak bins (binsIn 2 bins) tol low high) peak centre mode total
@@ -108,7 +123,8 @@ right (hough bins tol peak at frames word) =
     let p = houghPeak bins (binsIn 3 bins) tol in
     (eqb (p .votes) peak && eqb (p .at) at)
     && (sameℤ (peakOffset bins (binsIn 3 bins) tol (p .at)) frames && is32 (Hough.prominence bins (binsIn 3 bins) tol (p .votes) (p .at)) word)
-right (ids calls given) = sameIds (idsGiven zeroed calls) given
+-- "Wang 3 words .., Panako 5"
+right (ids calls given) = givenAt 3 calls given && givenAt 5 calls given
 right (prominence peak total width word) = is32 (wangProminence peak total width) word
 right (score n hashes word) = is32 (scoreOf n hashes) word
 right (scale min max bins bin word) = is32 (timeScale (binCentre (single min) (perBin (single min) (single max) bins) bin)) word
@@ -147,6 +163,17 @@ table =
     ∷ roundsTo 0x3FDF_FFFF_FFFF_FFFF (pos 0)
     ∷ roundsTo 0x43E0_0000_0000_0000 (pos 9223372036854775807)
     ∷ roundsTo 0x7FF8_0000_0000_0000 (pos 0)
+    -- the ends of an i64 at rate 1000: −2^63 fits; 2^63 − 1, which is 2^63 as an f64, doesn't; 2^63 − 513 is the last that becomes a smaller one
+    ∷ triedMillis (negsuc 9223372036854775807) 0x447A_0000 (some (negsuc 9223372036854775807))
+    ∷ triedMillis (pos 9223372036854775807) 0x447A_0000 none
+    ∷ triedMillis (pos 9223372036854775295) 0x447A_0000 (some (pos 9223372036854774784))
+    -- half a millisecond; the smallest positive rate; rates 0, −62.5, infinite, a NaN
+    ∷ triedMillis (negsuc 0) 0x44FA_0000 (some (negsuc 0))
+    ∷ triedMillis (pos 1) 0x0000_0001 none
+    ∷ triedMillis (pos 1) 0x0000_0000 none
+    ∷ triedMillis (pos 1) 0xC27A_0000 none
+    ∷ triedMillis (pos 1) 0x7F80_0000 none
+    ∷ triedMillis (pos 1) 0x7FC0_0000 none
     -- a lone peak of 2; a background of 16,777,217, which rounds; a width of 1
     ∷ prominence 2 2 10 0x4000_0000
     ∷ prominence 1 16777218 3 0x33FF_FFFE

@@ -9,5 +9,5 @@ ghost use Rattle.examples.specs.Table.{right, all, table};
 pub fn rows() -> usize
     ensures { λ r. ⌜ (r ≡ length table) × T (all right table) ⌝ }
 {
-    24
+    33
 }

@@ -1,3 +1,4 @@
+pub mod Offsets
 pub mod Rates
 pub mod Scales
 pub mod Ranking

@@ -1,9 +1,10 @@
 // `matching/mod.rs` of the reference: offsets, results, their comparison, the tests of rates and
 // thresholds; and the scores that the two indexes work out in line.
 ghost use mathlib.Core.Path.{_≡_};
+ghost use mathlib.Core.Bool.{true};
 ghost use Prim.Native.Nat.{_≤_};
 ghost use lib.Ieee.Positive.{positive};
-ghost use Rattle.matching.specs.Offsets.{fromFrames, zeroOffset};
+ghost use Rattle.matching.specs.Offsets.{unrounded, inI64, fromFrames, tryFromFrames, zeroOffset};
 ghost use Rattle.matching.specs.Rates.{ratesAgree};
 ghost use Rattle.matching.specs.Scores.{clampScore, belowThreshold, wangProminence, scoreOf};
 ghost use Rattle.matching.specs.Scales.{perBin, binCentre, timeScale};
@@ -16,10 +17,31 @@ fn is_rate(x: f32) -> bool
     x > 0.0 && x < 1.0 / 0.0
 }
 
+// The milliseconds of so many frames, before they are rounded.
+fn milliseconds(frames: i64, frames_per_sec: f32) -> f64
+    requires { ⌜ positive «frames_per_sec» ≡ true ⌝ }
+    ensures { λ r. ⌜ r ≡ unrounded frames «frames_per_sec» ⌝ }
+{
+    std::num::nearest_i64_to_f64(frames) * 1000.0 / (frames_per_sec as f64)
+}
+
+// Whether the number is among those of an i64. Both ends are floats.
+fn is_i64(x: f64) -> bool
+    ensures { λ r. ⌜ r ≡ inI64 x ⌝ }
+{
+    (x >= -9223372036854775808.0) & (x < 9223372036854775808.0)
+}
+
 // Signed time offset of the query relative to the reference.
 pub struct TimeOffset {
     pub frames: i64,
     pub ms: i64,
+}
+
+// The `Option` of `try_from_frames`.
+pub enum TriedOffset {
+    Nothing,
+    Offset(TimeOffset),
 }
 
 impl TimeOffset {
@@ -29,13 +51,30 @@ impl TimeOffset {
         ensures { λ r. ⌜ r ≡ fromFrames frames «frames_per_sec» ⌝ }
     {
         if is_rate(frames_per_sec) {
-            let ms: f64 = std::num::nearest_i64_to_f64(frames) * 1000.0 / (frames_per_sec as f64);
+            let ms = milliseconds(frames, frames_per_sec);
             return TimeOffset {
                 frames,
                 ms: floats::round_to_i64(ms),
             };
         }
         TimeOffset { frames, ms: 0 }
+    }
+
+    // Nothing where the rate is none, or the milliseconds don't fit in an i64.
+    pub fn try_from_frames(frames: i64, frames_per_sec: f32) -> TriedOffset
+        ensures { λ r. ⌜ r ≡ tryFromFrames frames «frames_per_sec» ⌝ }
+    {
+        if !is_rate(frames_per_sec) {
+            return TriedOffset::Nothing;
+        }
+        let ms = milliseconds(frames, frames_per_sec);
+        if !is_i64(ms) {
+            return TriedOffset::Nothing;
+        }
+        TriedOffset::Offset(TimeOffset {
+            frames,
+            ms: floats::round_to_i64(ms),
+        })
     }
 }
 

@@ -3,14 +3,14 @@ use mathlib.Core.Path.{_≡_, refl, sym, subst, ap, ap₂, _∙_}
 use mathlib.Core.Logic.{_⊎_, inl, inr}
 use mathlib.Core.Bool.{Bool, true, false, cond, _&&_}
 use mathlib.Core.List.{List, [], _∷_, _++_, append-nil}
-use Prim.Native.Nat.{ℕ, suc, _+_, _*_, _-_, _/_, _≤_, _<_}
+use Prim.Native.Nat.{ℕ, suc, _+_, _*_, _-_, _^_, _≤_, _<_}
 use native.Mathlib.Nat.{eq-or-lt-of-le}
 use native.Mathlib.Omega.{arith}
 use lib.IntN.{ℤ, pos}
 use lib.Dec.{ltb}
-use lib.ListN.{length, getD, take, drop, set, length-append}
-use lib.Seq.{set-out, take-suc-set, take-set-le}
-use borrow.Author.Tests.{lt-ltb, ltb-false}
+use lib.ListN.{length, getD, take, drop, set, length-append, length-drop}
+use lib.Seq.{set-out, take-suc-set, take-set-le, length-take-le, getD-take, getD-drop}
+use borrow.Author.Tests.{lt-ltb, le-ltb, ltb-false}
 use Rattle.lists.specs.Lists.{flat, sum}
 use Rattle.lists.specs.Keys.{under}
 use Rattle.lists.specs.Entries.{entries, entryAt, keyOf, keysAscend}
@@ -21,8 +21,8 @@ use Rattle.maps.proofs.Entries.{first-splits, under-part, part-entries}
 use Rattle.bins.specs.Votes.{packed}
 use Rattle.query_search.specs.Starts.{met}
 use Rattle.query_search.proofs.Meeting.{under-many}
-use Rattle.query_search.specs.Gathered.{found, wordsBy, wordsOf, wordsFrom}
-use Rattle.query_search.proofs.Walks.{put-more, firsts}
+use Rattle.query_search.specs.Gathered.{found, wordsBy, wordsOf, wordsFrom, Ids}
+use Rattle.query_search.proofs.Walks.{put-more, firsts, id-below}
 use Rattle.query_search.proofs.Walks as walks
 use Rattle.wang_votes.specs.Gathered.{voteWord, wordWith, pairWord, wordsOn}
 
@@ -32,10 +32,6 @@ module _ (part : List ℕ) (shift q : ℕ) where
   pub word-is : (j : ℕ) → voteWord shift q (entryAt 3 j part) ≡ packed (getD part (3 * j + 1) 0) (getD part (3 * j + 2) 0 + shift) q
   word-is j = rw (entry-word 3 j part 1 (omega arith), entry-word 3 j part 2 (omega arith)) refl
 
-  -- by the word at which the posting stands
-  pub word-at : (k : ℕ) → k ≡ 3 * (k / 3) → packed (getD part (k + 1) 0) (getD part (k + 2) 0 + shift) q ≡ voteWord shift q (entryAt 3 (k / 3) part)
-  word-at k e = ap (λ (n : ℕ). packed (getD part (n + 1) 0) (getD part (n + 2) 0 + shift) q) e ∙ sym (word-is (k / 3))
-
   pub put-word : (s₀ s : List ℤ) (at j : ℕ) → take (at + j) s ≡ take at s₀ ++ wordsOn shift q (entries 3 j part) → at + j < length s
       → take (at + (j + 1)) (set s (at + j) (pos (packed (getD part (3 * j + 1) 0) (getD part (3 * j + 2) 0 + shift) q))) ≡ take at s₀ ++ wordsOn shift q (entries 3 (j + 1) part)
   put-word s₀ s at j e h =
@@ -43,6 +39,33 @@ module _ (part : List ℕ) (shift q : ℕ) where
       let m : at + (j + 1) ≡ suc (at + j) = omega arith in
       subst (λ (x : ℕ). take (at + (j + 1)) (set s (at + j) (pos x)) ≡ take at s₀ ++ wordsOn shift q (entries 3 (j + 1) part)) (word-is j)
       (rw m (put-more (wordWith shift q) 3 part (take at s₀) (take (at + j) s) (take (suc (at + j)) (set s (at + j) word)) j e (take-suc-set s (at + j) word h)))
+
+-- ---- the postings from number a on, of p
+
+module _ (ps part : List ℕ) (p a : ℕ) (fits : 3 * p ≤ length ps) (within : a ≤ p) (h : part ≡ take (3 * p - 3 * a) (drop (3 * a) ps)) where
+  rest-long : length part ≡ 3 * p - 3 * a
+  rest-long = ap (λ (l : List ℕ). length l) h ∙ length-take-le (3 * p - 3 * a) (drop (3 * a) ps) (omega (arith, length-drop (3 * a) ps))
+
+  rest-word : (i : ℕ) → i < 3 * p - 3 * a → getD part i 0 ≡ getD ps (3 * a + i) 0
+  rest-word i lt = ap (λ (l : List ℕ). getD l i 0) h ∙ getD-take (3 * p - 3 * a) (drop (3 * a) ps) i 0 lt ∙ getD-drop (3 * a) ps i 0
+
+  -- the first of them is whole, and its id has its bits
+  pub first-whole : Ids (entries 3 p ps) → 0 < length part → (2 < length part) × (getD part 1 0 < 2 ^ 12)
+  first-whole ids lt = (
+    omega (arith, rest-long),
+    subst (λ (n : ℕ). n < 2 ^ 12) (sym (rest-word 1 (omega (arith, rest-long)))) (id-below 3 (omega arith) ps p a ids (omega (arith, rest-long))),
+  )
+
+  -- its vote, put where there is one
+  pub first-vote : (s : List ℤ) (at shift q : ℕ) → cond (ltb 0 (length part)) (set s at (pos (packed (getD part 1 0) (getD part 2 0 + shift) q))) s
+      ≡ cond (ltb (3 * a) (3 * p)) (set s at (pos (voteWord shift q (entryAt 3 a ps)))) s
+  first-vote s at shift q = go (eq-or-lt-of-le within)
+    where
+      go : (a ≡ p) ⊎ (a < p) → cond (ltb 0 (length part)) (set s at (pos (packed (getD part 1 0) (getD part 2 0 + shift) q))) s
+          ≡ cond (ltb (3 * a) (3 * p)) (set s at (pos (voteWord shift q (entryAt 3 a ps)))) s
+      go (inl e) = rw (le-ltb 0 (length part) (omega (arith, rest-long)), le-ltb (3 * a) (3 * p) (omega arith))
+      go (inr l) =
+          rw (lt-ltb 0 (length part) (omega (arith, rest-long)), lt-ltb (3 * a) (3 * p) (omega arith), rest-word 1 (omega (arith, rest-long)), rest-word 2 (omega (arith, rest-long)), word-is ps shift q a)
 
 -- ---- a word written where a test passes; behind the last one nothing is written
 

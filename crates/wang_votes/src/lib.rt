@@ -2,17 +2,17 @@
 ghost use mathlib.Core.Path.{_≡_};
 ghost use mathlib.Core.Bool.{true, cond};
 ghost use mathlib.Core.List.{_++_};
-ghost use Prim.Native.Nat.{_+_, _*_, _/_, _≤_, _<_, _^_};
+ghost use Prim.Native.Nat.{_+_, _*_, _-_, _≤_, _<_, _^_};
 ghost use lib.IntN.{pos};
 ghost use lib.Dec.{ltb};
-ghost use lib.ListN.{length, getD, take, set};
+ghost use lib.ListN.{length, getD, take, drop, set};
 ghost use Rattle.lists.specs.Keys.{under};
-ghost use Rattle.lists.specs.Entries.{entries, entryAt, keyOf, keysAscend};
+ghost use Rattle.lists.specs.Entries.{entries, keyOf, keysAscend};
 ghost use Rattle.maps.specs.Entries.{firstAt};
 ghost use Rattle.bins.specs.Votes.{packed};
 ghost use Rattle.query_search.specs.Starts.{Starts, Ends, met};
 ghost use Rattle.query_search.specs.Gathered.{Ids};
-ghost use Rattle.wang_votes.specs.Gathered.{voteWord, words, wordsOn, Packable};
+ghost use Rattle.wang_votes.specs.Gathered.{words, wordsOn, Packable};
 
 // The vote of the query hash at position q with the posting at word k goes to word `at`.
 fn put_posting(s: &mut [i64], at: usize, posts: &[u32], k: usize, shift: u64, q: u64)
@@ -36,18 +36,29 @@ fn gather_part(s: &mut [i64], at: usize, part: &[u32], n: usize, shift: u64, q: 
     }
 }
 
-// The vote with the posting at word a, of p postings, goes to word `at`, where there are such a posting and such a word.
-fn gather_first(s: &mut [i64], at: usize, posts: &[u32], p: usize, a: usize, shift: u64, q: u64)
-    requires { ⌜ (3 * p ≤ length (now posts)) × Ids (entries 3 p (now posts)) × (a ≡ 3 * (a / 3)) × (shift < 2 ^ 32) × (q < 2 ^ 11) ⌝ }
-    ensures { λ _. ⌜ now (s .exit) ≡ cond (ltb a (3 * p)) (set (now (s .entry)) at (pos (voteWord shift q (entryAt 3 (a / 3) (now (posts .entry)))))) (now (s .entry)) ⌝ }
+// The postings from word a on, of p: where a key begins there, the part starts with its postings.
+fn from_key(posts: &[u32], p: usize, a: u32) -> &[u32]
+    requires { ⌜ (a ≤ 3 * p) × (3 * p ≤ length (now posts)) ⌝ }
+    ensures { λ r. ⌜ now r ≡ take (3 * p - a) (drop a (now (posts .entry))) ⌝ }
 {
-    if (a < 3 * p) & (at < s.len()) {
-        put_posting(s, at, posts, a, shift, q);
+    let from = a as usize;
+    &posts[from..3 * p]
+}
+
+// The vote with the first posting of a part goes to word `at`, where there are such a posting and such a word.
+fn gather_first(s: &mut [i64], at: usize, part: &[u32], shift: u64, q: u64)
+    requires { ⌜ (0 < length (now part) → (2 < length (now part)) × (getD (now part) 1 0 < 2 ^ 12)) × (shift < 2 ^ 32) × (q < 2 ^ 11) ⌝ }
+    ensures { λ _. ⌜ now (s .exit) ≡ cond (ltb 0 (length (now (part .entry))))
+        (set (now (s .entry)) at (pos (packed (getD (now (part .entry)) 1 0) (getD (now (part .entry)) 2 0 + shift) q))) (now (s .entry)) ⌝ }
+{
+    if (0 < part.len()) & (at < s.len()) {
+        put_posting(s, at, part, 0, shift, q);
     }
 }
 
 // The votes with all of p postings that stand under a key, from word `start` to before word `end`. Yields where the votes end. One vote at most is
-// written without asking whether it is there, since that can't be predicted: where it isn't, its word is not counted.
+// written without asking whether it is there, since that can't be predicted: where it isn't, its word is not counted. So the part that is handed
+// on then goes on behind the key.
 fn gather_key(
     s: &mut [i64],
     at: usize,
@@ -66,7 +77,8 @@ fn gather_key(
 {
     let n = ((end - start) / 3) as usize;
     if n <= 1 {
-        gather_first(s, at, posts, p, start as usize, shift, q);
+        let part = from_key(posts, p, start);
+        gather_first(s, at, part, shift, q);
         return at + n;
     }
     let part = query_search::part_of(posts, 3, p, start, end, key);

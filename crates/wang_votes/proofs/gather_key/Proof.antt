@@ -1,20 +1,17 @@
 -- `wang_votes::gather_key` meets its contract: the entries of the part are those under the key. Assumes nothing.
-use mathlib.Core.Path.{_≡_, refl, sym, subst, ap, ap₂, _∙_}
-use mathlib.Core.Bool.{cond}
+use mathlib.Core.Path.{_≡_, refl, sym, subst, ap, _∙_}
 use mathlib.Core.List.{List, _++_}
 use Prim.Native.Nat.{ℕ, _+_, _*_, _-_, _/_, _≤_}
 use native.Mathlib.Omega.{arith}
-use lib.IntN.{pos}
-use lib.Dec.{ltb}
-use lib.ListN.{length, take, set}
+use lib.ListN.{length, take, drop}
 use Rattle.lists.specs.Lists.{flat}
 use Rattle.lists.specs.Keys.{under}
-use Rattle.lists.specs.Entries.{entries, entryAt, keyOf}
+use Rattle.lists.specs.Entries.{entries, keyOf}
 use Rattle.maps.specs.Entries.{firstAt}
-use Rattle.maps.proofs.Entries.{first-le, part-length}
+use Rattle.maps.proofs.Entries.{first-splits, first-le, part-length}
 use Rattle.query_search.proofs.Walks.{part-ids}
-use Rattle.wang_votes.specs.Gathered.{voteWord, wordsOn}
-use Rattle.wang_votes.proofs.Walks.{under-long, part-is, put-first}
+use Rattle.wang_votes.specs.Gathered.{wordsOn}
+use Rattle.wang_votes.proofs.Walks.{first-whole, first-vote, under-long, part-is, put-first}
 use borrow.Author.Needs.{needs}
 use Rattle.wang_votes.proofs.gather_key.Statement.{statement}
 use Rattle.wang_votes.proofs.gather_key.Tie as tie
@@ -44,8 +41,22 @@ sub-n c = let s = c .before in omega (arith, s .pre .2, s .pre .3, first-le (s .
 cast-n : tie.Need-cast-n
 cast-n c = search needs
 
+-- the key begins within the postings
+starts-in : (s : tie.Start) → first s ≤ s .args .p
+starts-in s = first-splits (s .args .posts .now) 3 (s .args .p) (s .args .key) (s .pre .1) .within
+
+from-key-requires : tie.Need-from-key-requires
+from-key-requires c κs = let s = c .before .before in (omega (arith, s .pre .2, starts-in s), s .pre .0)
+
+-- what is handed on
+handed : (c : tie.After-from-key) → c .from-key .result .now ≡ take (3 * c .before .before .before .args .p - 3 * first (c .before .before .before)) (drop (3 * first (c .before .before .before)) (c .before .before .before .args .posts .now))
+handed c = let s = c .before .before .before in c .from-key .ensures ∙ ap (λ (k : ℕ). take (3 * s .args .p - k) (drop k (s .args .posts .now))) (s .pre .2)
+
 gather-first-requires : tie.Need-gather-first-requires
-gather-first-requires c κs = let s = c .before .before .before in (s .pre .0, s .pre .4, omega (arith, s .pre .2), s .pre .6, s .pre .7)
+gather-first-requires c κs =
+    let k = c .before in
+    let s = k .before .before .before in
+    (first-whole (s .args .posts .now) (k .from-key .result .now) (s .args .p) (first s) (s .pre .0) (starts-in s) (handed k) (s .pre .4), s .pre .6, s .pre .7)
 
 add-result : tie.Need-add-result
 add-result c = search needs
@@ -55,12 +66,12 @@ same-length c = search needs
 
 returns : tie.Need-returns
 returns c =
-    let s = c .before .before .before .before .before in
+    let k = c .before .before .before in
+    let s = k .before .before .before in
     let a = s .args in
-    let begin : a .start / 3 ≡ first s = omega (arith, s .pre .2) in
     let written = c .before .gather-first .ensures
-    ∙ ap₂ (λ (k j : ℕ). cond (ltb k (3 * a .p)) (set (a .s .now) (a .at) (pos (voteWord (a .shift) (a .q) (entryAt 3 j (a .posts .now))))) (a .s .now)) (s .pre .2) begin in
-    let few : above s - first s ≤ 1 = omega (arith, between s, c .before .before .before .if1 .taken) in (
+    ∙ first-vote (a .posts .now) (k .from-key .result .now) (a .p) (first s) (s .pre .0) (starts-in s) (handed k) (a .s .now) (a .at) (a .shift) (a .q) in
+    let few : above s - first s ≤ 1 = omega (arith, between s, k .before .if1 .taken) in (
       omega (arith, many s),
       subst (λ (n : ℕ). take (a .at + n) (c .before .gather-first .last .0) ≡ take (a .at) (a .s .now) ++ wordsOn (a .shift) (a .q) (found s)) (sym (between s))
           (put-first (a .posts .now) (a .p) (a .key) (first s) (above s) (s .pre .0) (s .pre .1) refl refl (a .shift) (a .q) (a .s .now) (c .before .gather-first .last .0) (a .at) few (omega (arith, many s, between s, s .pre .5)) written),
@@ -92,6 +103,7 @@ gather-key-spec =
     (tie.spec
     sub-n
     cast-n
+    from-key-requires
     gather-first-requires
     add-result
     same-length
