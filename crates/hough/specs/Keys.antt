@@ -31,14 +31,6 @@ key l i = (scale l i + 1) * row + place l i
 abbrev pub nearBy : ℕ → ℕ → Bool
 nearBy tol d = leb d tol || (leb d (row + tol) && leb (row - tol) d)
 
--- the sums of the first i bins, of these bins alone
-abbrev pub Summed : List ℤ → ℕ → ℕ → List ℕ → Type 0
-Summed l tol i sums = (k : ℕ) → k < i → getD sums k 0 ≡ houghSum l i tol k
-
--- so few bins' sums are worked out at once
-abbrev pub FewSums : List ℤ → ℕ → ℕ → List ℕ → Type 0
-FewSums l n tol sums = n ≤ 32 → Summed l tol n sums
-
 -- the three windows around the key x, one row down, in its row and one row up: ready to move there, and there
 pub record Ready (l : List ℤ) (n tol x : ℕ) (t : Windows) : Type 0 where
   pub under : Slides (key l) (votes l) n tol (x - row) (t .under)

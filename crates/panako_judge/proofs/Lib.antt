@@ -4,4 +4,5 @@ pub mod Votes
 pub mod Counts
 pub mod Binned
 pub mod Words
+pub mod Lent
 pub mod Gates
