@@ -38,8 +38,9 @@ pub fn run(only: Option<&str>) {
     sweep(&table, "1,000 bins", &mut rng, 1000);
     sweep(&table, "100,000 bins", &mut rng, 100_000);
     hough(&table, "10 bins", &mut rng, 10, 1);
-    hough(&table, "32 bins", &mut rng, 32, 1);
-    hough(&table, "32 bins, tolerance 4", &mut rng, 32, 4);
+    hough(&table, "24 bins", &mut rng, 24, 1);
+    hough(&table, "24 bins, tolerance 4", &mut rng, 24, 4);
+    hough(&table, "25 bins", &mut rng, 25, 1);
     hough(&table, "33 bins", &mut rng, 33, 1);
     hough(&table, "1,000 bins", &mut rng, 1000, 1);
     hough(&table, "20,000 bins", &mut rng, 20_000, 1);

@@ -7,6 +7,7 @@ use native.Mathlib.Omega.{arith}
 use native.Mathlib.Decide.{decLt}
 use lib.IntN.{ℤ, pos}
 use lib.ListN.{length, getD, set}
+use lib.Signed.{nonNeg}
 use lib.Dec.{leb}
 use borrow.Author.Tests.{le-leb, lt-leb}
 use Rattle.maps.specs.Sums.{when}
@@ -74,8 +75,12 @@ pub turned-none : (l : List ℤ) (tol i : ℕ) (s : List ℤ) (e : ℕ) → Writ
 turned-none l tol i s e W = record { done = λ k h. absurd (omega arith); left = λ k g h. W k h; own = sym (hough-none l tol i) }
 
 module _ (l : List ℤ) (n : ℕ) (b : Bins l n) (tol : ℕ) (T : tol ≤ 65535) (i : ℕ) (u : i < n) (s : List ℤ) (e sum : ℕ) where
-  pub turned-small : (j : ℕ) → j < i → Turned l tol i j s e sum → (sum ≤ 1000000) × (natOf (getD s (e + j) (pos 0)) ≤ 1000000)
-  turned-small j h t = (omega (arith, t .own, hough-small l n b tol i j (omega arith)), omega (arith, ap natOf (t .left j (omega arith) h), hough-small l n b tol j i (omega arith)))
+  pub turned-small : (j : ℕ) → j < i → Turned l tol i j s e sum → (sum ≤ 1000000) × lib.Dec.T (nonNeg (getD s (e + j) (pos 0))) × (natOf (getD s (e + j) (pos 0)) ≤ 1000000)
+  turned-small j h t = (
+    omega (arith, t .own, hough-small l n b tol i j (omega arith)),
+    rw (t .left j (omega arith) h) tt,
+    omega (arith, ap natOf (t .left j (omega arith) h), hough-small l n b tol j i (omega arith)),
+  )
 
   -- the pair of bins i and j
   pub turned-more : (s′ : List ℤ) (j : ℕ) (near : Bool) (x y : ℕ) → s′ ≡ set s (e + j) (pos (natOf (getD s (e + j) (pos 0)) + y)) → j < i → e + n ≤ length s

@@ -1,5 +1,5 @@
 -- What the exported functions ask of their bins: a record for those who prove it, and the test that the code decides. The two say the
--- same (proofs/Checks.antt). Definitions only. Assumes nothing.
+-- same (proofs/Checks.antt). Then the sums, which stand behind the bins. Definitions only. Assumes nothing.
 use Prim.Native.Nat.{ℕ, _+_, _*_, _/_, _^_, _≤_, _<_}
 use mathlib.Core.Path.{_≡_}
 use mathlib.Core.Bool.{Bool, cond, _&&_, _||_}

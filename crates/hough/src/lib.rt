@@ -1,18 +1,20 @@
 // `matching/consolidate.rs` of the reference, in two dimensions: Panako's Hough consolidation. A bin
 // is three words of a slice: its scale bin, its offset, its count. The bins ascend by scale bin, then
-// by offset.
+// by offset. Behind n bins stand their sums, a word each: `HoughScratch` of the reference, as parts of
+// the scratch. They are worked out once, for the peak and its prominence.
 //
 // Scale bin and offset make one number, the bin's key: a row of 2^41 for each scale bin, and in it a
 // place for the offset, with the offset 0 in the middle. The keys ascend, and the neighbours of a bin
 // are those whose keys lie within the tolerance of its own, or of the same place one row down or up.
 // So three windows slide over the bins, each by two indices that only grow. The sums of a few bins are
-// worked out pair by pair and kept, and with a small tolerance the offset of their peak directly.
+// worked out pair by pair, and with a small tolerance the offset of their peak directly.
 ghost use mathlib.Core.Path.{_≡_};
 ghost use mathlib.Core.Bool.{_&&_, _||_};
 ghost use Prim.Native.Nat.{ℕ, _+_, _-_, _*_, _<_, _≤_, _^_};
 ghost use lib.ListN.{length, getD, take, set};
 ghost use lib.IntN.{pos};
-ghost use lib.Dec.{leb, ltb, eqb};
+ghost use lib.Signed.{nonNeg};
+ghost use lib.Dec.{T, leb, ltb, eqb};
 ghost use Rattle.lists.specs.Every.{every};
 ghost use Rattle.maps.specs.Sums.{when};
 ghost use Rattle.maps.specs.Words.{natOf};
@@ -29,7 +31,7 @@ const ROW: u64 = 0x200_0000_0000;
 const MIDDLE: i64 = 0x100_0000_0000;
 
 // For so few bins, looking at every pair is cheaper than sliding windows.
-const FEW: usize = 32;
+const FEW: usize = 24;
 
 // And with so small a tolerance, so is looking at every offset within it.
 const NEAR: u64 = 4;
@@ -125,13 +127,13 @@ fn kept(b: bool, v: u64) -> u64
     if b { v } else { 0 }
 }
 
-// Word `at` of s holds a number, and v more afterwards.
+// The number in word `at` becomes v more.
 fn add_to(s: &mut [i64], at: usize, v: u64)
-    requires { ⌜ (at < length (now s)) × (natOf (getD (now s) at (pos 0)) + v < 2 ^ 63) ⌝ }
+    requires { ⌜ (at < length (now s)) × T (nonNeg (getD (now s) at (pos 0))) × (natOf (getD (now s) at (pos 0)) + v < 2 ^ 63) ⌝ }
     ensures { λ _. ⌜ now (s .exit) ≡ set (now (s .entry)) at (pos (natOf (getD (now (s .entry)) at (pos 0)) + v)) ⌝ }
 {
-    let sum = maps::word_at(s, at) + v;
-    maps::put_word(s, at, sum);
+    let more = v as i64;
+    s[at] += more;
 }
 
 // The sums among the first i bins become those among one bin more.
@@ -288,7 +290,9 @@ fn sum_at(s: &[i64], n: usize, tol: u64, i: usize) -> u64
     requires { ⌜ Roomy (now s) n × Summed (now s) n tol × (i < n) ⌝ }
     ensures { λ r. ⌜ (r ≡ houghSum (take (3 * n) (now (s .entry))) n tol i) × (r ≤ 1000000) ⌝ }
 {
-    maps::word_at(s, 3 * n + i)
+    let j = 3 * n + i;
+    let v = s[j];
+    v as u64
 }
 
 // ---- the peak

@@ -3,6 +3,8 @@ use mathlib.Core.List.{List}
 use Prim.Native.Nat.{ℕ, _+_, _*_, _-_, _≤_, _<_}
 use native.Mathlib.Omega.{arith}
 use lib.IntN.{ℤ, pos}
+use lib.Signed.{nonNeg}
+use lib.Dec.{T}
 use lib.ListN.{length, getD, take}
 use borrow.Author.Needs.{needs}
 use Rattle.maps.specs.Sums.{when}
@@ -52,7 +54,7 @@ module _ (l : tie.In-loop Inv-loop μ-loop) where
   good = (rw (l .before .loop .inv .2 .bins) (own .pre .0 .bins), omega (arith, l .loop-test .taken, own .pre .2))
 
   -- what is added stays small
-  small : (l .before .loop .sum ≤ 1000000) × (natOf (getD (l .before .loop .s) (3 * own .args .n + l .before .loop .j) (pos 0)) ≤ 1000000)
+  small : (l .before .loop .sum ≤ 1000000) × T (nonNeg (getD (l .before .loop .s) (3 * own .args .n + l .before .loop .j) (pos 0))) × (natOf (getD (l .before .loop .s) (3 * own .args .n + l .before .loop .j) (pos 0)) ≤ 1000000)
   small =
       let a = own .args in
       let h = l .before .loop in
@@ -146,7 +148,7 @@ add-to-requires c κs =
     let v = c .before .before .before in
     let l = keyed (voted v .before) in
     let k = l .before .before in
-    (omega (arith, long (l .before), good l .1), omega (arith, small l .1, c .kept2 .ensures, keep-le (voted v .is-near .result) (k .votes-at .result), vote-i k))
+    (omega (arith, long (l .before), good l .1), small l .1, omega (arith, small l .2, c .kept2 .ensures, keep-le (voted v .is-near .result) (k .votes-at .result), vote-i k))
 
 add-j : tie.Need-add-j Inv-loop μ-loop
 add-j c = search needs

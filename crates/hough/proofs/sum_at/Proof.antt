@@ -1,28 +1,43 @@
-use mathlib.Core.Path.{ap, _∙_}
+use mathlib.Core.Path.{_≡_, refl, ap, _∙_}
+use Prim.Native.Nat.{ℕ, _+_, _*_, _≤_}
 use native.Mathlib.Omega.{arith}
-use Prim.Native.Nat.{_*_}
-use lib.ListN.{take}
-use Rattle.maps.specs.Words.{natOf}
+use lib.IntN.{pos}
+use lib.ListN.{getD, take}
+use Rattle.maps.proofs.Words.{word, read-is}
+use Rattle.hough.specs.Hough.{houghSum}
 use Rattle.hough.proofs.Places.{hough-small}
 use borrow.Author.Needs.{needs}
 use Rattle.hough.proofs.sum_at.Statement.{statement}
 use Rattle.hough.proofs.sum_at.Tie as tie
 
-mul-word-at : tie.Need-mul-word-at
-mul-word-at c = search needs
+-- the word that is read
+module _ (o : tie.Start) where
+  abbrev sum : ℕ
+  sum = houghSum (take (3 * o .args .n) (o .args .s .now)) (o .args .n) (o .args .tol) (o .args .i)
 
-add-word-at : tie.Need-add-word-at
-add-word-at c = search needs
+  small : sum ≤ 1000000
+  small = hough-small (take (3 * o .args .n) (o .args .s .now)) (o .args .n) (o .pre .0 .bins) (o .args .tol) (o .args .i) (o .args .n) (omega arith)
 
-word-at-requires : tie.Need-word-at-requires
-word-at-requires c κs = search needs
+  read : word (getD (o .args .s .now) (3 * o .args .n + o .args .i) (pos 0)) ≡ pos sum
+  read = ap word (o .pre .1 (o .args .i) (o .pre .2)) ∙ read-is (pos sum) (omega (arith, small))
+
+mul-j : tie.Need-mul-j
+mul-j c = search needs
+
+add-j : tie.Need-add-j
+add-j c = search needs
+
+mul-v : tie.Need-mul-v
+mul-v c = search needs
+
+shared-slice-copy-out-v : tie.Need-shared-slice-copy-out-v
+shared-slice-copy-out-v c = search needs
+
+cast-result : tie.Need-cast-result
+cast-result c = let o = c .before in rw (read o) (tt, record { fits = omega (arith, small o) })
 
 returns : tie.Need-returns
-returns c =
-    let o = c .before in
-    let a = o .args in
-    let e = c .word-at .ensures .0 ∙ ap natOf (o .pre .1 (a .i) (o .pre .2)) in
-    (e, omega (arith, e, hough-small (take (3 * a .n) (a .s .now)) (a .n) (o .pre .0 .bins) (a .tol) (a .i) (a .n) (omega arith)))
+returns c = let o = c .before in rw (read o) (refl, small o)
 
 pub sum-at-spec : {M : Type 1} → statement M
-sum-at-spec = tie.close (tie.spec mul-word-at add-word-at word-at-requires returns)
+sum-at-spec = tie.close (tie.spec mul-j add-j mul-v shared-slice-copy-out-v cast-result returns)
