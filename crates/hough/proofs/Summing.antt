@@ -10,7 +10,7 @@ use lib.Seq.{length-take-le, getD-set-same, getD-set-other, take-set-le, drop-se
 use borrow.Author.Tests.{eqb-true, eqb-false}
 use Rattle.lists.proofs.Tests.{test}
 use Rattle.hough.specs.Hough.{houghSum}
-use Rattle.hough.specs.Limits.{Bins, Roomy, Written, Summed, Kept, WithSums}
+use Rattle.hough.specs.Limits.{Bins, Roomy, Written, Kept, WithSums}
 
 -- ---- the bins
 

@@ -1,17 +1,15 @@
 -- What the parts of the Hough walk say of each other, on natural numbers. Assumes nothing.
 use Prim.Native.Nat.{ℕ, zero, suc, _+_, _-_, _*_, _^_, _≤_, _<_}
-use mathlib.Core.Path.{_≡_}
 use mathlib.Core.Bool.{Bool, cond, _&&_, _||_}
 use mathlib.Core.List.{List}
 use lib.IntN.{ℤ, pos, natAbs, _+ℤ_}
-use lib.ListN.{getD}
 use lib.Dec.{leb, ltb, eqb}
 use Rattle.maps.specs.Sums.{sumTo, when}
 use Rattle.consolidate.specs.Windows.{Slides, Covers}
 use Rattle.consolidate.specs.declared.Window.{Window}
 use Rattle.consolidate.specs.Tallies.{tallyOf}
 use Rattle.consolidate.specs.declared.Tally.{Tally}
-use Rattle.hough.specs.Hough.{scale, offset, votes, dist, houghSum, frame, merged}
+use Rattle.hough.specs.Hough.{scale, offset, votes, dist, frame, merged}
 use Rattle.hough.specs.declared.Peak.{Peak}
 use Rattle.hough.specs.declared.Windows.{Windows}
 use Rattle.hough.specs.declared.Background.{Background}
