@@ -38,8 +38,9 @@ pub fn run(only: Option<&str>) {
     sweep(&table, "1,000 bins", &mut rng, 1000);
     sweep(&table, "100,000 bins", &mut rng, 100_000);
     hough(&table, "10 bins", &mut rng, 10, 1);
-    hough(&table, "32 bins", &mut rng, 32, 1);
-    hough(&table, "32 bins, tolerance 4", &mut rng, 32, 4);
+    hough(&table, "24 bins", &mut rng, 24, 1);
+    hough(&table, "24 bins, tolerance 4", &mut rng, 24, 4);
+    hough(&table, "25 bins", &mut rng, 25, 1);
     hough(&table, "33 bins", &mut rng, 33, 1);
     hough(&table, "1,000 bins", &mut rng, 1000, 1);
     hough(&table, "20,000 bins", &mut rng, 20_000, 1);
@@ -194,13 +195,13 @@ fn sort(table: &Table<'_>, what: &str, rng: &mut Rng, votes: usize) {
 }
 
 /// The same bins for either side.
-struct Bins<K> {
-    ours: Vec<i64>,
+struct Bins<K, W = Vec<i64>> {
+    ours: W,
     rust: Vec<(K, u32)>,
 }
 
 /// Enough of them that a turn takes long enough.
-fn enough<K>(bins: usize, input: impl FnMut() -> Bins<K>) -> Vec<Bins<K>> {
+fn enough<K, W>(bins: usize, input: impl FnMut() -> Bins<K, W>) -> Vec<Bins<K, W>> {
     let inputs = INPUTS.div_ceil(4 * bins);
     std::iter::repeat_with(input).take(inputs).collect()
 }
@@ -246,7 +247,8 @@ fn sweep(table: &Table<'_>, what: &str, rng: &mut Rng, bins: usize) {
 }
 
 fn hough(table: &Table<'_>, what: &str, rng: &mut Rng, bins: usize, tol: u64) {
-    type Input = Bins<(u32, i64)>;
+    // A call writes the sums behind the bins, and leaves these as they are.
+    type Input = Bins<(u32, i64), RefCell<Vec<i64>>>;
     // 24 scale bins; every other offset or so is taken.
     let inputs = enough(bins, || {
         let mut places: Vec<(u32, i64)> = Vec::new();
@@ -263,14 +265,17 @@ fn hough(table: &Table<'_>, what: &str, rng: &mut Rng, bins: usize, tol: u64) {
             .into_iter()
             .map(|place| (place, 1 + rng.below(3) as u32))
             .collect();
-        let ours = rust
-            .iter()
-            .flat_map(|&((scale, offset), n)| [scale.into(), offset, n.into()])
-            .collect();
+        let words = |&((scale, offset), n): &((u32, i64), u32)| [scale.into(), offset, n.into()];
+        let mut ours: Vec<i64> = rust.iter().flat_map(words).collect();
+        ours.resize(4 * bins, 0);
+        let ours = RefCell::new(ours);
         Bins { ours, rust }
     });
     let reach = RefCell::new(Reach::default());
-    let ours = |_: &mut Reach, input: &Input, tol| capi::hough_panako_peak(&input.ours, tol);
+    let ours = |_: &mut Reach, input: &Input, tol| {
+        let n = input.rust.len();
+        capi::hough_panako_peak(&mut input.ours.borrow_mut(), n, tol)
+    };
     let rust = |reach: &mut Reach, input: &Input, tol: u64| {
         let (bins, tol) = (&input.rust, tol as i64);
         let (votes, at) = reach.panako_hough_peak(bins, tol);

@@ -77,7 +77,13 @@ mod raw {
             high: i64,
             answer: &mut Answer,
         );
-        pub fn hough_panako_peak(bins: *const i64, len: usize, tol: u64, answer: &mut Answer);
+        pub fn hough_panako_peak(
+            words: *mut i64,
+            len: usize,
+            n: usize,
+            tol: u64,
+            answer: &mut Answer,
+        );
         pub fn sheet_card_sheet_of(
             card: *const u8,
             card_len: usize,
@@ -105,9 +111,11 @@ pub fn consolidate_sparse_wang_box_peak(bins: &[i64], tol: u64, low: i64, high: 
     answer
 }
 
-pub fn hough_panako_peak(bins: &[i64], tol: u64) -> Answer {
+/// The first `n` bins of `words`, with the next `n` words for their sums.
+pub fn hough_panako_peak(words: &mut [i64], n: usize, tol: u64) -> Answer {
+    let (at, len) = (words.as_mut_ptr(), words.len());
     let mut answer = UNANSWERED;
-    unsafe { raw::hough_panako_peak(bins.as_ptr(), bins.len(), tol, &mut answer) };
+    unsafe { raw::hough_panako_peak(at, len, n, tol, &mut answer) };
     answer
 }
 

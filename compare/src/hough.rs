@@ -1,6 +1,6 @@
-//! Panako's Hough consolidation beside the reference's: the peak, its offset
-//! and its prominence. What the library refuses is told by a test of the
-//! limits here.
+//! Panako's Hough consolidation beside the reference's: the peak, its offset,
+//! its prominence, and the sums that are left behind the bins. What the
+//! library refuses is told by a test of the limits here.
 
 use crate::capi;
 use crate::consolidate::{MILLION, damage, digits, length};
@@ -25,10 +25,13 @@ fn hough_takes(bins: &[i64], tol: u64) -> bool {
         && triples().map(|bin| bin[2]).sum::<i64>() <= MILLION
 }
 
-/// Bins, and room for those that the reference takes.
+/// Bins, the words that are lent and what should be left of them, and room
+/// for the bins that the reference takes.
 #[derive(Default)]
 pub struct Hough {
     bins: Vec<i64>,
+    words: Vec<i64>,
+    left: Vec<i64>,
     keyed: Vec<((u32, i64), u32)>,
     reach: Reach,
 }
@@ -40,9 +43,24 @@ impl Hough {
         self.bins.extend(bins.iter().flat_map(words));
     }
 
+    /// With room for every sum.
     pub fn same(&mut self, check: &mut Check, tol: u64) {
-        let Self { bins, keyed, reach } = self;
-        let rust = if hough_takes(bins, tol) {
+        self.lent(check, tol, self.bins.len() / 3);
+    }
+
+    fn lent(&mut self, check: &mut Check, tol: u64, room: usize) {
+        let Self {
+            bins,
+            words: lent,
+            left,
+            keyed,
+            reach,
+        } = self;
+        let n = bins.len() / 3;
+        left.clone_from(bins);
+        left.resize(bins.len() + room, -1);
+        lent.clone_from(left);
+        let rust = if n <= room && hough_takes(bins, tol) {
             keyed.clear();
             keyed.extend(
                 bins.chunks_exact(3)
@@ -52,6 +70,8 @@ impl Hough {
             let (votes, at) = reach.panako_hough_peak(keyed, tol);
             let prominence = reach.panako_prominence(keyed, at, tol);
             let offset = reach.panako_peak_offset(keyed, at, tol);
+            let sums = left[3 * n..].iter_mut().zip(reach.consolidated());
+            sums.for_each(|(word, &sum)| *word = sum.into());
             answer([
                 1,
                 votes.into(),
@@ -62,8 +82,12 @@ impl Hough {
         } else {
             answer([0])
         };
-        let ours = capi::hough_panako_peak(bins, tol);
-        check.same_of(|| [words(bins), vec![tol]].concat(), &ours, &rust);
+        let ours = capi::hough_panako_peak(lent, n, tol);
+        let input = || [words(bins), vec![tol, room as u64]].concat();
+        if lent != left {
+            check.same_of(input, &words(lent), &words(left));
+        }
+        check.same_of(input, &ours, &rust);
     }
 
     /// Every grid of `scales` by `offsets` whose bins are absent or count up
@@ -126,13 +150,16 @@ impl Hough {
         match rng.below(16) {
             0 => damage(rng, &mut self.bins, 3),
             1 => tol = rng.pick(&[65_535, 65_536, 1 << 32, u64::MAX]),
-            // Part of a bin is passed over.
-            2 => self
-                .bins
-                .resize(self.bins.len() + 1 + rng.below(2) as usize, -1),
             _ => {}
         }
-        self.same(check, tol);
+        // Now and then a word short of the room for the sums, or some more.
+        let n = self.bins.len() / 3;
+        let room = match rng.below(16) {
+            0 => n.saturating_sub(1),
+            1 => n + 1 + rng.below(5) as usize,
+            _ => n,
+        };
+        self.lent(check, tol, room);
     }
 }
 

@@ -6,7 +6,7 @@ ghost use Prim.Native.Nat.{_+_, _/_};
 ghost use lib.ListN.{length, take, drop};
 ghost use Rattle.sorting.specs.Sort.{sortZ};
 ghost use Rattle.consolidate.specs.Limits.{checkedMode, checkedPeak};
-ghost use Rattle.hough.specs.Limits.{checkedAnswer};
+ghost use Rattle.hough.specs.Limits.{checkedAnswer, leftAfter};
 ghost use Rattle.panako_vote.specs.Settings.{normalised};
 ghost use Rattle.panako_vote.specs.Votes.{checkedVote};
 ghost use Rattle.capi.specs.Codes.{flag};
@@ -78,12 +78,14 @@ pub extern "C" fn consolidate_sparse_wang_box_peak(
     }
 }
 
-// 1: peak, the index of its bin, its offset, its prominence.
+// 1: peak, the index of its bin, its offset, its prominence. Of n bins, with the next n words for their
+// sums. Where it says 0, the words stay as they are.
 #[no_mangle]
-pub extern "C" fn hough_panako_peak(bins: &[i64], tol: u64, answer: &mut [u64; 8])
-    ensures { λ _. ⌜ now (answer .exit) ≡ houghWords (checkedAnswer (now (bins .entry)) (length (now (bins .entry)) / 3) tol) ⌝ }
+pub extern "C" fn hough_panako_peak(words: &mut [i64], n: usize, tol: u64, answer: &mut [u64; 8])
+    ensures { λ _. ⌜ now (answer .exit) ≡ houghWords (checkedAnswer (now (words .entry)) n tol) ⌝ }
+    ensures { λ _. ⌜ leftAfter (checkedAnswer (now (words .entry)) n tol) (now (words .entry)) (now (words .exit)) n tol ⌝ }
 {
-    match hough::checked_hough(bins, bins.len() / 3, tol) {
+    match hough::checked_hough(words, n, tol) {
         CheckedAnswer::Refused => {
             *answer = [0, 0, 0, 0, 0, 0, 0, 0];
         }

@@ -1,14 +1,14 @@
 -- The test says what the record says: it accepts every argument that the record holds for, and no other. Assumes nothing.
-use Prim.Native.Nat.{ℕ, _+_, _*_, _^_, _≤_, _<_}
+use Prim.Native.Nat.{ℕ, _+_, _*_, _/_, _^_, _≤_, _<_}
 use mathlib.Core.Path.{_≡_, refl}
 use mathlib.Core.Bool.{true, _&&_, _||_}
 use mathlib.Core.List.{List, [], _∷_}
 use native.Mathlib.Omega.{arith}
 use lib.IntN.{ℤ, pos, natAbs}
 use lib.Signed.{nonNeg}
-use lib.Dec.{T, leb}
-use lib.ListN.{length}
-use borrow.Author.Tests.{leb-true, le-leb}
+use lib.Dec.{T, leb, ltb}
+use lib.ListN.{length, take}
+use borrow.Author.Tests.{leb-true, ltb-true, le-leb}
 use Rattle.maps.specs.Sums.{sumTo}
 use Rattle.lists.specs.Every.{every}
 use Rattle.lists.proofs.Tests.{and-left, and-right}
@@ -16,7 +16,7 @@ use Rattle.lists.proofs.Every.{every-at, every-make}
 use Rattle.maps.proofs.Tests.{holds, is-true}
 use Rattle.consolidate.proofs.Checks.{next-of, next-ok, fitting-of, fitting-ok}
 use Rattle.hough.specs.Hough.{scaleWord, offset, countOf, scale, votes}
-use Rattle.hough.specs.Limits.{before, Bins, binOk, binsOk}
+use Rattle.hough.specs.Limits.{before, Bins, Roomy, binOk, binsOk, houghOk}
 
 -- what one bin's test shows
 record One (l : List ℤ) (n i : ℕ) : Type 0 where
@@ -72,6 +72,21 @@ bins-ok l n b =
     at i h =
         rw (is-true (nonNeg (scaleWord l i)) (b .scaled i h), le-leb (scale l i) 4095 (b .scales i h), le-leb (natAbs (offset l i)) (2 ^ 39) (b .close i h), is-true (nonNeg (countOf l i)) (b .counted i h))
         (next-ok n i (before l i (i + 1)) (b .ascend i))
+
+-- what the checked function asks
+pub hough-of : (s : List ℤ) (n tol : ℕ) → houghOk s n tol ≡ true → Roomy s n × (0 < n) × (tol ≤ 65535)
+hough-of s n tol e =
+    let a = leb n (length s / 4) in
+    let b = ltb 0 n in
+    let c = leb tol 65535 in
+    let d = binsOk (take (3 * n) s) n in
+    let f = and-right a (b && (c && d)) e in
+    let g = and-right b (c && d) f in
+    let r = leb-true n (length s / 4) (and-left a (b && (c && d)) e) in (
+      record { bins = bins-of (take (3 * n) s) n (and-right c d g); room = omega arith },
+      ltb-true 0 n (and-left b (c && d) f),
+      leb-true tol 65535 (and-left c d g),
+    )
 
 -- there are such bins: the example of document 01
 pub shown : Bins (pos 4 ∷ pos 10 ∷ pos 2 ∷ pos 5 ∷ pos 10 ∷ pos 3 ∷ pos 9 ∷ pos 10 ∷ pos 1 ∷ []) 3

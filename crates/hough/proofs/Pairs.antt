@@ -1,24 +1,25 @@
--- The sums of a few bins, worked out pair by pair. Assumes nothing.
+-- The sums of bins, worked out pair by pair. Assumes nothing.
 use Prim.Native.Nat.{ℕ, _+_, _-_, _*_, _≤_, _<_}
 use mathlib.Core.Path.{_≡_, refl, sym, ap, _∙_}
 use mathlib.Core.Bool.{Bool, true, _&&_}
 use mathlib.Core.List.{List}
 use native.Mathlib.Omega.{arith}
 use native.Mathlib.Decide.{decLt}
-use lib.IntN.{ℤ}
+use lib.IntN.{ℤ, pos}
 use lib.ListN.{length, getD, set}
-use lib.Seq.{getD-set-same, getD-set-other}
-use lib.Dec.{leb, eqb}
-use borrow.Author.Tests.{le-leb, lt-leb, eqb-true, eqb-false}
-use Rattle.lists.proofs.Tests.{test}
+use lib.Signed.{nonNeg}
+use lib.Dec.{leb}
+use borrow.Author.Tests.{le-leb, lt-leb}
 use Rattle.maps.specs.Sums.{when}
+use Rattle.maps.specs.Words.{natOf}
 use Rattle.maps.proofs.Sums.{sum-next}
 use Rattle.consolidate.proofs.Spans.{leb-same}
 use Rattle.hough.specs.Hough.{scale, votes, dist, neighbour, houghSum}
-use Rattle.hough.specs.Limits.{Bins}
-use Rattle.hough.specs.Keys.{row, place, key, nearBy, Summed}
+use Rattle.hough.specs.Limits.{Bins, Written}
+use Rattle.hough.specs.Keys.{row, place, key, nearBy}
 use Rattle.hough.proofs.Rows.{Inside, dist-is}
 use Rattle.hough.proofs.Places.{inside, keys-up, apart-is, hough-none, hough-small}
+use Rattle.hough.proofs.Summing.{other-word, written-more}
 
 -- ---- the keys of neighbours
 
@@ -62,57 +63,50 @@ module _ (l : List ℤ) (n : ℕ) (b : Bins l n) (tol : ℕ) (T : tol ≤ 65535)
   unfolding houghSum
   sum-more i j = sum-next (λ j. when (neighbour l tol i j) (votes l j)) j
 
-pub summed-small : (l : List ℤ) (n : ℕ) → Bins l n → (tol : ℕ) (sums : List ℕ) → Summed l tol n sums → (i : ℕ) → i < n → getD sums i 0 ≤ 1000000
-summed-small l n b tol sums S i u = omega (arith, S i u, hough-small l n b tol i n (omega arith))
-
 -- ---- bin i, and the bins before it
 
--- the sums with bin i added to those of the first j bins; and the sum of bin i by these j
-pub record Turned (l : List ℤ) (tol i j : ℕ) (sums : List ℕ) (sum : ℕ) : Type 0 where
-  pub done : (k : ℕ) → k < j → getD sums k 0 ≡ houghSum l (i + 1) tol k
-  pub left : (k : ℕ) → j ≤ k → k < i → getD sums k 0 ≡ houghSum l i tol k
+-- the sums from word e on, with bin i added to those of the first j bins; and the sum of bin i by these j
+pub record Turned (l : List ℤ) (tol i j : ℕ) (s : List ℤ) (e sum : ℕ) : Type 0 where
+  pub done : Written (houghSum l (i + 1) tol) j s e
+  pub left : (k : ℕ) → j ≤ k → k < i → getD s (e + k) (pos 0) ≡ pos (houghSum l i tol k)
   pub own : sum ≡ houghSum l j tol i
 
-pub turned-none : (l : List ℤ) (tol i : ℕ) (sums : List ℕ) → Summed l tol i sums → Turned l tol i 0 sums 0
-turned-none l tol i sums S = record { done = λ k h. absurd (omega arith); left = λ k g h. S k h; own = sym (hough-none l tol i) }
+pub turned-none : (l : List ℤ) (tol i : ℕ) (s : List ℤ) (e : ℕ) → Written (houghSum l i tol) i s e → Turned l tol i 0 s e 0
+turned-none l tol i s e W = record { done = λ k h. absurd (omega arith); left = λ k g h. W k h; own = sym (hough-none l tol i) }
 
-module _ (l : List ℤ) (n : ℕ) (b : Bins l n) (tol : ℕ) (T : tol ≤ 65535) (i : ℕ) (u : i < n) (sums : List ℕ) (sum : ℕ) where
-  pub turned-small : (j : ℕ) → j < i → Turned l tol i j sums sum → (sum ≤ 1000000) × (getD sums j 0 ≤ 1000000)
-  turned-small j h t = (omega (arith, t .own, hough-small l n b tol i j (omega arith)), omega (arith, t .left j (omega arith) h, hough-small l n b tol j i (omega arith)))
+module _ (l : List ℤ) (n : ℕ) (b : Bins l n) (tol : ℕ) (T : tol ≤ 65535) (i : ℕ) (u : i < n) (s : List ℤ) (e sum : ℕ) where
+  pub turned-small : (j : ℕ) → j < i → Turned l tol i j s e sum → (sum ≤ 1000000) × lib.Dec.T (nonNeg (getD s (e + j) (pos 0))) × (natOf (getD s (e + j) (pos 0)) ≤ 1000000)
+  turned-small j h t = (
+    omega (arith, t .own, hough-small l n b tol i j (omega arith)),
+    rw (t .left j (omega arith) h) tt,
+    omega (arith, ap natOf (t .left j (omega arith) h), hough-small l n b tol j i (omega arith)),
+  )
 
   -- the pair of bins i and j
-  pub turned-more : (j : ℕ) (near : Bool) (x y : ℕ) → j < i → n ≤ length sums → near ≡ nearBy tol (key l i - key l j) → x ≡ when near (votes l j) → y ≡ when near (votes l i)
-      → Turned l tol i j sums sum → Turned l tol i (j + 1) (set sums j (getD sums j 0 + y)) (sum + x)
-  turned-more j near x y h len e ex ey t =
+  pub turned-more : (s′ : List ℤ) (j : ℕ) (near : Bool) (x y : ℕ) → s′ ≡ set s (e + j) (pos (natOf (getD s (e + j) (pos 0)) + y)) → j < i → e + n ≤ length s
+      → near ≡ nearBy tol (key l i - key l j) → x ≡ when near (votes l j) → y ≡ when near (votes l i) → Turned l tol i j s e sum → Turned l tol i (j + 1) s′ e (sum + x)
+  turned-more s′ j near x y es h len en ex ey t =
       record {
-        done = λ k g. test (eqb j k) (λ q. here k (eqb-true j k q)) (λ q. getD-set-other sums j k (getD sums j 0 + y) 0 (λ z. eqb-false j k q (sym z)) ∙ t .done k (omega (arith, eqb-false j k q)));
-        left = λ k g r. getD-set-other sums j k (getD sums j 0 + y) 0 (λ z. omega arith) ∙ t .left k (omega arith) r;
+        done = written-more (houghSum l (i + 1) tol) j s s′ e (natOf (getD s (e + j) (pos 0)) + y) (omega arith) es here (t .done);
+        left = λ k g r. ap (λ (z : List ℤ). getD z (e + k) (pos 0)) es ∙ other-word s e j k (pos (natOf (getD s (e + j) (pos 0)) + y)) (λ z. omega arith) ∙ t .left k (omega arith) r;
         own = omega (arith, t .own, sum-more l n b tol T i j, ex ∙ ap (λ (z : Bool). when z (votes l j)) is);
       }
     where
       is : near ≡ neighbour l tol i j
-      is = e ∙ before-is l n b tol T i j h u
+      is = en ∙ before-is l n b tol T i j h u
 
       back : near ≡ neighbour l tol j i
       back = is ∙ other-way l n b tol T i j u (omega arith)
 
-      here : (k : ℕ) → j ≡ k → getD (set sums j (getD sums j 0 + y)) k 0 ≡ houghSum l (i + 1) tol k
-      here k q =
-          rw (sym q)
-          (getD-set-same sums j (getD sums j 0 + y) 0 (omega arith)
-          ∙ omega (arith, t .left j (omega arith) h, sum-more l n b tol T j i, ey ∙ ap (λ (z : Bool). when z (votes l i)) back))
+      here : natOf (getD s (e + j) (pos 0)) + y ≡ houghSum l (i + 1) tol j
+      here = omega (arith, ap natOf (t .left j (omega arith) h), sum-more l n b tol T j i, ey ∙ ap (λ (z : Bool). when z (votes l i)) back)
 
-  pub turned-all : (j v : ℕ) → j ≡ i → n ≤ length sums → v ≡ votes l i → Turned l tol i j sums sum → Summed l tol (i + 1) (set sums i (sum + v))
-  turned-all j v q len ev t k h =
-      test (eqb i k)
-      (λ r. here (eqb-true i k r))
-      (λ r. getD-set-other sums i k (sum + v) 0 (λ z. eqb-false i k r (sym z)) ∙ t .done k (omega (arith, eqb-false i k r)))
+  pub turned-all : (s′ : List ℤ) (j v : ℕ) → s′ ≡ set s (e + i) (pos (sum + v)) → j ≡ i → e + n ≤ length s → v ≡ votes l i → Turned l tol i j s e sum
+      → Written (houghSum l (i + 1) tol) (i + 1) s′ e
+  turned-all s′ j v es q len ev t = written-more (houghSum l (i + 1) tol) i s s′ e (sum + v) (omega arith) es here (rw q at (t .done))
     where
       own : sum ≡ houghSum l i tol i
       own = rw q at (t .own)
 
-      here : i ≡ k → getD (set sums i (sum + v)) k 0 ≡ houghSum l (i + 1) tol k
-      here r =
-          rw (sym r)
-          (getD-set-same sums i (sum + v) 0 (omega arith)
-          ∙ omega (arith, own, sum-more l n b tol T i i, ev, ap (λ (z : Bool). when z (votes l i)) (itself l n b tol T i u)))
+      here : sum + v ≡ houghSum l (i + 1) tol i
+      here = omega (arith, own, sum-more l n b tol T i i, ev, ap (λ (z : Bool). when z (votes l i)) (itself l n b tol T i u))

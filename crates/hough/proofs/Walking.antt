@@ -7,13 +7,13 @@ use native.Mathlib.Omega.{arith}
 use native.Mathlib.Decide.{decLt}
 use lib.IntN.{ℤ}
 use lib.Dec.{ltb}
-use borrow.Author.Tests.{ltb-true, ltb-false, lt-ltb}
+use borrow.Author.Tests.{ltb-true, ltb-false}
 use Rattle.maps.specs.Sums.{sumTo, greatest, when}
-use Rattle.maps.proofs.Sums.{sum-next, sum-term, sum-none, sum-zero}
+use Rattle.maps.proofs.Sums.{sum-next}
 use Rattle.consolidate.specs.Runs.{Leads}
 use Rattle.consolidate.proofs.Leading.{leads-new, leads-on, leads-greatest, leads-first}
 use Rattle.consolidate.proofs.Sliding.{slides-on, slides-none, covers-sum}
-use Rattle.hough.specs.Hough.{far, houghSum, houghPeak, farSum, farCount}
+use Rattle.hough.specs.Hough.{far, houghSum, houghPeak}
 use Rattle.hough.specs.Limits.{Bins}
 use Rattle.hough.specs.Keys.{row, key, Ready, Around, atStart, betterOf, moreOf}
 use Rattle.hough.specs.declared.Peak.{Peak}
@@ -103,38 +103,3 @@ behind-more l n tol a i b q t v eq et ev small B = go t eq et
         let x : fs i ≡ 0 = ap (λ (z : Bool). when z (houghSum l n tol i)) (sym et) in
         let y : fc i ≡ 0 = ap (λ (z : Bool). when z 1) (sym et) in
         record { sum = omega (arith, sum-next fs i, B .sum); count = omega (arith, sum-next fc i, B .count); small = omega (arith, B .small); few = omega (arith, B .few) }
-
--- ---- no bin out of reach
-
-module _ (l : List ℤ) (tol a : ℕ) where
-  abbrev mark : ℕ → ℕ
-  mark j = when (far l tol a j) 1
-
-  pub near-none : farCount l 0 tol a ≡ 0
-  unfolding farCount
-  near-none = sum-zero mark
-
-  pub near-more : (i : ℕ) (b : Bool) → b ≡ far l tol a i → b ≡ false → farCount l i tol a ≡ 0 → farCount l (i + 1) tol a ≡ 0
-  unfolding farCount
-  near-more i b t h e =
-      let m : mark i ≡ 0 = ap (λ (z : Bool). when z 1) (sym t ∙ h) in
-      omega (arith, sum-next mark i)
-
-  pub far-some : (n i : ℕ) (b : Bool) → i < n → b ≡ far l tol a i → b ≡ true → true ≡ ltb 0 (farCount l n tol a)
-  unfolding farCount
-  far-some n i b u t h =
-      let m : mark i ≡ 1 = ap (λ (z : Bool). when z 1) (sym t ∙ h) in
-      sym (lt-ltb 0 (sumTo mark n) (omega (arith, sum-term mark n i u)))
-
-  near-sum : (n : ℕ) → farCount l n tol a ≡ 0 → farSum l n tol a ≡ 0
-  unfolding farCount farSum
-  near-sum n e = sum-none _ n (λ j u. go j (far l tol a j) (omega (arith, sum-term mark n j u)))
-    where
-      go : (j : ℕ) (b : Bool) → when b 1 ≤ 0 → when b (houghSum l n tol j) ≡ 0
-      go j true h = absurd (omega arith)
-      go j false h = refl
-
-  pub all-near : (n : ℕ) → ltb 0 (farCount l n tol a) ≡ false → (0 ≡ farSum l n tol a) × (0 ≡ farCount l n tol a)
-  all-near n e =
-      let z : farCount l n tol a ≡ 0 = omega (arith, ltb-false 0 (farCount l n tol a) e) in
-      (sym (near-sum n z), sym z)

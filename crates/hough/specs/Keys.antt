@@ -1,17 +1,15 @@
 -- What the parts of the Hough walk say of each other, on natural numbers. Assumes nothing.
 use Prim.Native.Nat.{ℕ, zero, suc, _+_, _-_, _*_, _^_, _≤_, _<_}
-use mathlib.Core.Path.{_≡_}
 use mathlib.Core.Bool.{Bool, cond, _&&_, _||_}
 use mathlib.Core.List.{List}
 use lib.IntN.{ℤ, pos, natAbs, _+ℤ_}
-use lib.ListN.{getD}
 use lib.Dec.{leb, ltb, eqb}
 use Rattle.maps.specs.Sums.{sumTo, when}
 use Rattle.consolidate.specs.Windows.{Slides, Covers}
 use Rattle.consolidate.specs.declared.Window.{Window}
 use Rattle.consolidate.specs.Tallies.{tallyOf}
 use Rattle.consolidate.specs.declared.Tally.{Tally}
-use Rattle.hough.specs.Hough.{scale, offset, votes, dist, houghSum, frame, merged}
+use Rattle.hough.specs.Hough.{scale, offset, votes, dist, frame, merged}
 use Rattle.hough.specs.declared.Peak.{Peak}
 use Rattle.hough.specs.declared.Windows.{Windows}
 use Rattle.hough.specs.declared.Background.{Background}
@@ -30,14 +28,6 @@ key l i = (scale l i + 1) * row + place l i
 -- keys that lie d apart are those of neighbours
 abbrev pub nearBy : ℕ → ℕ → Bool
 nearBy tol d = leb d tol || (leb d (row + tol) && leb (row - tol) d)
-
--- the sums of the first i bins, of these bins alone
-abbrev pub Summed : List ℤ → ℕ → ℕ → List ℕ → Type 0
-Summed l tol i sums = (k : ℕ) → k < i → getD sums k 0 ≡ houghSum l i tol k
-
--- so few bins' sums are worked out at once
-abbrev pub FewSums : List ℤ → ℕ → ℕ → List ℕ → Type 0
-FewSums l n tol sums = n ≤ 32 → Summed l tol n sums
 
 -- the three windows around the key x, one row down, in its row and one row up: ready to move there, and there
 pub record Ready (l : List ℤ) (n tol x : ℕ) (t : Windows) : Type 0 where

@@ -1,15 +1,16 @@
 -- What the exported functions ask of their bins: a record for those who prove it, and the test that the code decides. The two say the
--- same (proofs/Checks.antt). Definitions only. Assumes nothing.
-use Prim.Native.Nat.{ℕ, _+_, _*_, _^_, _≤_, _<_}
+-- same (proofs/Checks.antt). Then the sums, which stand behind the bins. Definitions only. Assumes nothing.
+use Prim.Native.Nat.{ℕ, _+_, _*_, _/_, _^_, _≤_, _<_}
+use mathlib.Core.Path.{_≡_}
 use mathlib.Core.Bool.{Bool, cond, _&&_, _||_}
 use mathlib.Core.List.{List}
-use lib.IntN.{ℤ, natAbs}
+use lib.IntN.{ℤ, pos, natAbs}
 use lib.Signed.{nonNeg, ltZ}
 use lib.Dec.{T, leb, ltb, eqb}
-use lib.ListN.{length}
+use lib.ListN.{length, getD, take, drop}
 use Rattle.maps.specs.Sums.{sumTo}
 use Rattle.lists.specs.Every.{every}
-use Rattle.hough.specs.Hough.{scaleWord, offset, countOf, scale, votes, houghPeak, peakOffset, prominence}
+use Rattle.hough.specs.Hough.{scaleWord, offset, countOf, scale, votes, houghSum, houghPeak, peakOffset, prominence}
 use Rattle.hough.specs.declared.Peak.{Peak}
 use Rattle.hough.specs.declared.Answer.{Answer}
 use Rattle.hough.specs.declared.CheckedAnswer.{CheckedAnswer}
@@ -38,11 +39,45 @@ binOk l n i =
 unfoldable pub binsOk : List ℤ → ℕ → Bool
 binsOk l n = leb n 1000000 && (leb (3 * n) (length l) && (every n (binOk l n) && leb (sumTo (votes l) n) 1000000))
 
+-- ---- the sums: n words behind the n bins, one for each in their order
+
+-- n bins in the words s, and room behind them
+pub record Roomy (s : List ℤ) (n : ℕ) : Type 0 where
+  pub bins : Bins (take (3 * n) s) n
+  pub room : 4 * n ≤ length s
+
+-- the first i values of f stand from word e on
+abbrev pub Written : (ℕ → ℕ) → ℕ → List ℤ → ℕ → Type 0
+Written f i s e = (k : ℕ) → k < i → getD s (e + k) (pos 0) ≡ pos (f k)
+
+-- the bins' sums do
+abbrev pub Summed : List ℤ → ℕ → ℕ → Type 0
+Summed s n tol = Written (houghSum (take (3 * n) s) n tol) n s (3 * n)
+
+-- bins and what lies behind the room are as they were
+pub record Kept (s₀ s : List ℤ) (n : ℕ) : Type 0 where
+  pub bins : take (3 * n) s ≡ take (3 * n) s₀
+  pub rest : drop (4 * n) s ≡ drop (4 * n) s₀
+
+-- the words s₀, with the sums
+pub record WithSums (s₀ s : List ℤ) (n tol : ℕ) : Type 0 where
+  pub kept : Kept s₀ s n
+  pub sums : Summed s n tol
+
 -- ---- for any arguments
 
 -- the peak, its frames and its prominence
 abbrev pub answerAt : List ℤ → ℕ → ℕ → Peak → Answer
 answerAt l n tol p = record { peak = p; offset = peakOffset l n tol (p .at); prominence = prominence l n tol (p .votes) (p .at) }
 
+-- the first n bins of s are taken, and there is room for their sums
+abbrev pub houghOk : List ℤ → ℕ → ℕ → Bool
+houghOk s n tol = leb n (length s / 4) && (ltb 0 n && (leb tol 65535 && binsOk (take (3 * n) s) n))
+
 unfoldable pub checkedAnswer : List ℤ → ℕ → ℕ → CheckedAnswer
-checkedAnswer l n tol = cond (ltb 0 n && (leb tol 65535 && binsOk l n)) (Found (answerAt l n tol (houghPeak l n tol))) Refused
+checkedAnswer s n tol = cond (houghOk s n tol) (let l = take (3 * n) s in Found (answerAt l n tol (houghPeak l n tol))) Refused
+
+-- what an answer leaves of the words s₀
+abbrev pub leftAfter : CheckedAnswer → List ℤ → List ℤ → ℕ → ℕ → Type 0
+leftAfter Refused s₀ s n tol = s ≡ s₀
+leftAfter (Found a) s₀ s n tol = WithSums s₀ s n tol

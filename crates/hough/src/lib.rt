@@ -1,24 +1,27 @@
 // `matching/consolidate.rs` of the reference, in two dimensions: Panako's Hough consolidation. A bin
 // is three words of a slice: its scale bin, its offset, its count. The bins ascend by scale bin, then
-// by offset.
+// by offset. Behind n bins stand their sums, a word each: `HoughScratch` of the reference, as parts of
+// the scratch. They are worked out once, for the peak and its prominence.
 //
 // Scale bin and offset make one number, the bin's key: a row of 2^41 for each scale bin, and in it a
 // place for the offset, with the offset 0 in the middle. The keys ascend, and the neighbours of a bin
 // are those whose keys lie within the tolerance of its own, or of the same place one row down or up.
 // So three windows slide over the bins, each by two indices that only grow. The sums of a few bins are
-// worked out pair by pair and kept, and with a small tolerance the offset of their peak directly.
+// worked out pair by pair, and with a small tolerance the offset of their peak directly.
 ghost use mathlib.Core.Path.{_≡_};
 ghost use mathlib.Core.Bool.{_&&_, _||_};
 ghost use Prim.Native.Nat.{ℕ, _+_, _-_, _*_, _<_, _≤_, _^_};
-ghost use lib.ListN.{length, getD};
+ghost use lib.ListN.{length, getD, take, set};
 ghost use lib.IntN.{pos};
-ghost use lib.Dec.{leb, ltb, eqb};
+ghost use lib.Signed.{nonNeg};
+ghost use lib.Dec.{T, leb, ltb, eqb};
 ghost use Rattle.lists.specs.Every.{every};
 ghost use Rattle.maps.specs.Sums.{when};
+ghost use Rattle.maps.specs.Words.{natOf};
 ghost use Rattle.consolidate.specs.Windows.{Passed, Slides, Covers};
 ghost use Rattle.hough.specs.Hough.{scale, offset, votes, dist, far, houghSum, houghPeak, peakOffset, farSum, farCount, meanOf, prominence};
-ghost use Rattle.hough.specs.Limits.{before, Bins, binOk, binsOk, answerAt, checkedAnswer};
-ghost use Rattle.hough.specs.Keys.{place, key, nearBy, Summed, FewSums, Ready, Around, atStart, betterOf, moreOf, Ahead, Clear, countAt, frameTally};
+ghost use Rattle.hough.specs.Limits.{before, Bins, Roomy, Written, Summed, Kept, WithSums, binOk, binsOk, houghOk, answerAt, checkedAnswer, leftAfter};
+ghost use Rattle.hough.specs.Keys.{place, key, nearBy, Ready, Around, atStart, betterOf, moreOf, Ahead, Clear, countAt, frameTally};
 use consolidate::Pass;
 use consolidate::Tally;
 use consolidate::Window;
@@ -28,7 +31,7 @@ const ROW: u64 = 0x200_0000_0000;
 const MIDDLE: i64 = 0x100_0000_0000;
 
 // For so few bins, looking at every pair is cheaper than sliding windows.
-const FEW: usize = 32;
+const FEW: usize = 24;
 
 // And with so small a tolerance, so is looking at every offset within it.
 const NEAR: u64 = 4;
@@ -124,43 +127,44 @@ fn kept(b: bool, v: u64) -> u64
     if b { v } else { 0 }
 }
 
-// The sums among the first i bins become those among one bin more.
-fn add_bin(sums: &mut [u64], s: &[i64], n: usize, tol: u64, i: usize)
-    requires { ⌜ Bins (now s) n × (tol ≤ 65535) × (i < n) × (n ≤ length (now sums)) × Summed (now s) tol i (now sums) ⌝ }
-    ensures { λ _. ⌜ Summed (now (s .entry)) tol (i + 1) (now (sums .exit)) ⌝ }
+// The number in word `at` becomes v more.
+fn add_to(s: &mut [i64], at: usize, v: u64)
+    requires { ⌜ (at < length (now s)) × T (nonNeg (getD (now s) at (pos 0))) × (natOf (getD (now s) at (pos 0)) + v < 2 ^ 63) ⌝ }
+    ensures { λ _. ⌜ now (s .exit) ≡ set (now (s .entry)) at (pos (natOf (getD (now (s .entry)) at (pos 0)) + v)) ⌝ }
 {
-    let x = key_at(s, n, i);
-    let v = votes_at(s, n, i);
+    let more = v as i64;
+    s[at] += more;
+}
+
+// The sums among the first i bins become those among one bin more.
+fn add_bin(s: &mut [i64], n: usize, tol: u64, i: usize)
+    requires { ⌜ Roomy (now s) n × (tol ≤ 65535) × (i < n) × Written (houghSum (take (3 * n) (now s)) i tol) i (now s) (3 * n) ⌝ }
+    ensures { λ _. ⌜ Kept (now (s .entry)) (now (s .exit)) n ⌝ }
+    ensures { λ _. ⌜ Written (houghSum (take (3 * n) (now (s .entry))) (i + 1) tol) (i + 1) (now (s .exit)) (3 * n) ⌝ }
+{
+    let e = 3 * n;
+    let x = key_at(&s[..e], n, i);
+    let v = votes_at(&s[..e], n, i);
     let mut sum: u64 = 0;
     let mut j: usize = 0;
     while j < i {
-        let near = is_near(x - key_at(s, n, j), tol);
-        sum += kept(near, votes_at(s, n, j));
-        sums[j] += kept(near, v);
+        let near = is_near(x - key_at(&s[..e], n, j), tol);
+        sum += kept(near, votes_at(&s[..e], n, j));
+        add_to(s, e + j, kept(near, v));
         j += 1;
     }
-    sums[i] = sum + v;
+    maps::put_word(s, e + i, sum + v);
 }
 
-// The sum of each bin.
-fn put_sums(sums: &mut [u64], s: &[i64], n: usize, tol: u64)
-    requires { ⌜ Bins (now s) n × (tol ≤ 65535) × (n ≤ length (now sums)) ⌝ }
-    ensures { λ _. ⌜ Summed (now (s .entry)) tol n (now (sums .exit)) ⌝ }
+// The sum of each bin, pair by pair.
+fn pair_sums(s: &mut [i64], n: usize, tol: u64)
+    requires { ⌜ Roomy (now s) n × (tol ≤ 65535) ⌝ }
+    ensures { λ _. ⌜ WithSums (now (s .entry)) (now (s .exit)) n tol ⌝ }
 {
     let mut i: usize = 0;
     while i < n {
-        add_bin(sums, s, n, tol, i);
+        add_bin(s, n, tol, i);
         i += 1;
-    }
-}
-
-// The sum of each bin, where they are few: what the peak and its prominence then need not work out.
-pub fn few_sums(sums: &mut [u64], s: &[i64], n: usize, tol: u64)
-    requires { ⌜ Bins (now s) n × (tol ≤ 65535) × (32 ≤ length (now sums)) ⌝ }
-    ensures { λ _. ⌜ FewSums (now (s .entry)) n tol (now (sums .exit)) ⌝ }
-{
-    if n <= FEW {
-        put_sums(sums, s, n, tol);
     }
 }
 
@@ -253,6 +257,44 @@ fn at_start() -> Windows
     }
 }
 
+// The sum of each bin, by sliding windows.
+fn slid_sums(s: &mut [i64], n: usize, tol: u64)
+    requires { ⌜ Roomy (now s) n × (tol ≤ 65535) ⌝ }
+    ensures { λ _. ⌜ WithSums (now (s .entry)) (now (s .exit)) n tol ⌝ }
+{
+    let e = 3 * n;
+    let mut t = at_start();
+    let mut i: usize = 0;
+    while i < n {
+        t = stepped(&s[..e], n, tol, t, i);
+        maps::put_word(s, e + i, t.sum);
+        i += 1;
+    }
+}
+
+// The sum of each bin is put behind the n bins, in their order: what the peak and its prominence then
+// need not work out.
+pub fn put_sums(s: &mut [i64], n: usize, tol: u64)
+    requires { ⌜ Roomy (now s) n × (tol ≤ 65535) ⌝ }
+    ensures { λ _. ⌜ WithSums (now (s .entry)) (now (s .exit)) n tol ⌝ }
+{
+    if n <= FEW {
+        pair_sums(s, n, tol);
+    } else {
+        slid_sums(s, n, tol);
+    }
+}
+
+// The sum of bin i, of n bins with their sums behind them.
+fn sum_at(s: &[i64], n: usize, tol: u64, i: usize) -> u64
+    requires { ⌜ Roomy (now s) n × Summed (now s) n tol × (i < n) ⌝ }
+    ensures { λ r. ⌜ (r ≡ houghSum (take (3 * n) (now (s .entry))) n tol i) × (r ≤ 1000000) ⌝ }
+{
+    let j = 3 * n + i;
+    let v = s[j];
+    v as u64
+}
+
 // ---- the peak
 
 fn better(p: Peak, i: usize, v: u64) -> Peak
@@ -264,48 +306,19 @@ fn better(p: Peak, i: usize, v: u64) -> Peak
     p
 }
 
-// The peak by the sums of a few bins.
-fn few_peak(s: &[i64], n: usize, tol: u64, sums: &[u64]) -> Peak
-    requires { ⌜ Bins (now s) n × (n ≤ length (now sums)) × Summed (now s) tol n (now sums) ⌝ }
-    ensures { λ r. ⌜ r ≡ houghPeak (now (s .entry)) n tol ⌝ }
+// The greatest sum, and the first bin that has it, of n bins with their sums behind them.
+pub fn panako_hough_peak(s: &[i64], n: usize, tol: u64) -> Peak
+    requires { ⌜ Roomy (now s) n × Summed (now s) n tol ⌝ }
+    ensures { λ r. ⌜ r ≡ houghPeak (take (3 * n) (now (s .entry))) n tol ⌝ }
     ensures { λ r. ⌜ (0 < n → r .at < n) × (r .votes ≤ 1000000) ⌝ }
 {
     let mut best = Peak { votes: 0, at: 0 };
     let mut i: usize = 0;
     while i < n {
-        best = better(best, i, sums[i]);
+        best = better(best, i, sum_at(s, n, tol, i));
         i += 1;
     }
     best
-}
-
-// The same by sliding windows.
-fn slid_peak(s: &[i64], n: usize, tol: u64) -> Peak
-    requires { ⌜ Bins (now s) n × (tol ≤ 65535) ⌝ }
-    ensures { λ r. ⌜ r ≡ houghPeak (now (s .entry)) n tol ⌝ }
-    ensures { λ r. ⌜ (0 < n → r .at < n) × (r .votes ≤ 1000000) ⌝ }
-{
-    let mut t = at_start();
-    let mut best = Peak { votes: 0, at: 0 };
-    let mut i: usize = 0;
-    while i < n {
-        t = stepped(s, n, tol, t, i);
-        best = better(best, i, t.sum);
-        i += 1;
-    }
-    best
-}
-
-// The greatest sum, and the first bin that has it. `sums` are those of a few bins.
-pub fn panako_hough_peak(s: &[i64], n: usize, tol: u64, sums: &[u64]) -> Peak
-    requires { ⌜ Bins (now s) n × (tol ≤ 65535) × (32 ≤ length (now sums)) × FewSums (now s) n tol (now sums) ⌝ }
-    ensures { λ r. ⌜ r ≡ houghPeak (now (s .entry)) n tol ⌝ }
-    ensures { λ r. ⌜ (0 < n → r .at < n) × (r .votes ≤ 1000000) ⌝ }
-{
-    if n <= FEW {
-        return few_peak(s, n, tol, sums);
-    }
-    slid_peak(s, n, tol)
 }
 
 // ---- the prominence
@@ -339,63 +352,19 @@ fn more(b: Background, far: bool, v: u64) -> Background
     b
 }
 
-// Whether a bin is out of the reach of bin a.
-fn any_far(s: &[i64], n: usize, tol: u64, a: usize) -> bool
-    requires { ⌜ Bins (now s) n × (tol ≤ 65535) × (a < n) ⌝ }
-    ensures { λ r. ⌜ r ≡ ltb 0 (farCount (now (s .entry)) n tol a) ⌝ }
+// The background of bin a, of n bins with their sums behind them.
+fn background_of(s: &[i64], n: usize, tol: u64, a: usize) -> Background
+    requires { ⌜ Roomy (now s) n × (tol ≤ 65535) × Summed (now s) n tol × (a < n) ⌝ }
+    ensures { λ r. ⌜ (r .sum ≡ farSum (take (3 * n) (now (s .entry))) n tol a) × (r .count ≡ farCount (take (3 * n) (now (s .entry))) n tol a) ⌝ }
 {
-    let mut i: usize = 0;
-    while i < n {
-        if is_far(s, n, tol, a, i) {
-            return true;
-        }
-        i += 1;
-    }
-    false
-}
-
-// The background of bin a, by a walk over all bins.
-fn far_sums(s: &[i64], n: usize, tol: u64, a: usize) -> Background
-    requires { ⌜ Bins (now s) n × (tol ≤ 65535) × (a < n) ⌝ }
-    ensures { λ r. ⌜ (r .sum ≡ farSum (now (s .entry)) n tol a) × (r .count ≡ farCount (now (s .entry)) n tol a) ⌝ }
-{
-    let mut t = at_start();
+    let e = 3 * n;
     let mut b = Background { sum: 0, count: 0 };
     let mut i: usize = 0;
     while i < n {
-        t = stepped(s, n, tol, t, i);
-        b = more(b, is_far(s, n, tol, a, i), t.sum);
+        b = more(b, is_far(&s[..e], n, tol, a, i), sum_at(s, n, tol, i));
         i += 1;
     }
     b
-}
-
-// The same by the sums of a few bins.
-fn few_far(s: &[i64], n: usize, tol: u64, a: usize, sums: &[u64]) -> Background
-    requires { ⌜ Bins (now s) n × (tol ≤ 65535) × (a < n) × (n ≤ length (now sums)) × Summed (now s) tol n (now sums) ⌝ }
-    ensures { λ r. ⌜ (r .sum ≡ farSum (now (s .entry)) n tol a) × (r .count ≡ farCount (now (s .entry)) n tol a) ⌝ }
-{
-    let mut b = Background { sum: 0, count: 0 };
-    let mut i: usize = 0;
-    while i < n {
-        b = more(b, is_far(s, n, tol, a, i), sums[i]);
-        i += 1;
-    }
-    b
-}
-
-// The background of bin a. Where all bins are within its reach no sum is worked out again.
-fn background_of(s: &[i64], n: usize, tol: u64, a: usize, sums: &[u64]) -> Background
-    requires { ⌜ Bins (now s) n × (tol ≤ 65535) × (a < n) × (32 ≤ length (now sums)) × FewSums (now s) n tol (now sums) ⌝ }
-    ensures { λ r. ⌜ (r .sum ≡ farSum (now (s .entry)) n tol a) × (r .count ≡ farCount (now (s .entry)) n tol a) ⌝ }
-{
-    if n <= FEW {
-        return few_far(s, n, tol, a, sums);
-    }
-    if any_far(s, n, tol, a) {
-        return far_sums(s, n, tol, a);
-    }
-    Background { sum: 0, count: 0 }
 }
 
 fn mean(b: Background) -> f32
@@ -407,12 +376,13 @@ fn mean(b: Background) -> f32
     floats::u64_to_f32(b.sum) / floats::u64_to_f32(b.count)
 }
 
-// The peak's votes over one more than the mean of the sums out of its reach. `sums` are those of a few bins.
-pub fn panako_prominence(s: &[i64], n: usize, tol: u64, p: Peak, sums: &[u64]) -> f32
-    requires { ⌜ Bins (now s) n × (tol ≤ 65535) × (p .at < n) × (32 ≤ length (now sums)) × FewSums (now s) n tol (now sums) ⌝ }
-    ensures { λ r. ⌜ r ≡ prominence (now (s .entry)) n tol (p .votes) (p .at) ⌝ }
+// The peak's votes over one more than the mean of the sums out of its reach, of n bins with their sums
+// behind them.
+pub fn panako_prominence(s: &[i64], n: usize, tol: u64, p: Peak) -> f32
+    requires { ⌜ Roomy (now s) n × (tol ≤ 65535) × Summed (now s) n tol × (p .at < n) ⌝ }
+    ensures { λ r. ⌜ r ≡ prominence (take (3 * n) (now (s .entry))) n tol (p .votes) (p .at) ⌝ }
 {
-    let b = background_of(s, n, tol, p.at, sums);
+    let b = background_of(s, n, tol, p.at);
     floats::u64_to_f32(p.votes) / (mean(b) + 1.0)
 }
 
@@ -602,25 +572,39 @@ pub fn bins_ok(s: &[i64], n: usize) -> bool
     consolidate::sum_ok(s, n, 3, 2)
 }
 
-fn answer_of(s: &[i64], n: usize, tol: u64) -> Answer
-    requires { ⌜ Bins (now s) n × (0 < n) × (tol ≤ 65535) ⌝ }
-    ensures { λ r. ⌜ r ≡ answerAt (now (s .entry)) n tol (houghPeak (now (s .entry)) n tol) ⌝ }
+fn answer_of(s: &mut [i64], n: usize, tol: u64) -> Answer
+    requires { ⌜ Roomy (now s) n × (0 < n) × (tol ≤ 65535) ⌝ }
+    ensures { λ r. ⌜ r ≡ answerAt (take (3 * n) (now (s .entry))) n tol (houghPeak (take (3 * n) (now (s .entry))) n tol) ⌝ }
+    ensures { λ _. ⌜ WithSums (now (s .entry)) (now (s .exit)) n tol ⌝ }
 {
-    let mut sums = [0u64; 32];
-    few_sums(&mut sums, s, n, tol);
-    let peak = panako_hough_peak(s, n, tol, &sums);
+    let e = 3 * n;
+    put_sums(s, n, tol);
+    let peak = panako_hough_peak(s, n, tol);
     Answer {
         peak,
-        offset: panako_peak_offset(s, n, tol, peak.at),
-        prominence: panako_prominence(s, n, tol, peak, &sums),
+        offset: panako_peak_offset(&s[..e], n, tol, peak.at),
+        prominence: panako_prominence(s, n, tol, peak),
     }
 }
 
-// The peak, its offset and its prominence, for any arguments.
-pub fn checked_hough(s: &[i64], n: usize, tol: u64) -> CheckedAnswer
-    ensures { λ r. ⌜ r ≡ checkedAnswer (now (s .entry)) n tol ⌝ }
+// Whether the first n bins of s are taken, and there is room for a sum behind each.
+fn hough_ok(s: &[i64], n: usize, tol: u64) -> bool
+    ensures { λ r. ⌜ r ≡ houghOk (now (s .entry)) n tol ⌝ }
 {
-    if (0 < n) & ((tol <= 65535) & bins_ok(s, n)) {
+    if n > s.len() / 4 {
+        return false;
+    }
+    let e = 3 * n;
+    (0 < n) & ((tol <= 65535) & bins_ok(&s[..e], n))
+}
+
+// The peak, its offset and its prominence, for any arguments: of n bins, whose sums are put behind
+// them. Where it refuses, the words stay as they are.
+pub fn checked_hough(s: &mut [i64], n: usize, tol: u64) -> CheckedAnswer
+    ensures { λ r. ⌜ r ≡ checkedAnswer (now (s .entry)) n tol ⌝ }
+    ensures { λ r. ⌜ leftAfter r (now (s .entry)) (now (s .exit)) n tol ⌝ }
+{
+    if hough_ok(s, n, tol) {
         return CheckedAnswer::Found(answer_of(s, n, tol));
     }
     CheckedAnswer::Refused

@@ -6,4 +6,5 @@ pub mod Occupied
 pub mod Counts
 pub mod Binned
 pub mod Words
+pub mod Lent
 pub mod Gates

@@ -2,7 +2,7 @@
 use mathlib.Core.Path.{_≡_, refl, sym, ap, _∙_}
 use mathlib.Core.Bool.{true, cond}
 use mathlib.Core.List.{List, map}
-use Prim.Native.Nat.{ℕ, _+_, _-_, _*_, _^_, _≤_, _<_}
+use Prim.Native.Nat.{ℕ, _+_, _*_, _^_, _≤_, _<_}
 use native.Mathlib.Omega.{arith}
 use lib.IntN.{ℤ}
 use lib.ListN.{length, take, drop, length-drop}
@@ -59,25 +59,25 @@ module _ (s : List ℤ) (a g : ℕ) (fits : a + g ≤ length s) where
     weighed-bins q fps v w = rw (words, number) at w
 
   -- from `at` on, where there is room, their n bins were stored
-  module _ (at n : ℕ) (l : List ℤ) (room : at + 3 * g ≤ length s) (number : n ≡ length (occupied (codesIn panakoForm s a g))) (written : l ≡ stored s at (binsOf panakoForm middle (codesIn panakoForm s a g))) where
+  module _ (at n : ℕ) (l : List ℤ) (room : at + 4 * g ≤ length s) (number : n ≡ length (occupied (codesIn panakoForm s a g))) (written : l ≡ stored s at (binsOf panakoForm middle (codesIn panakoForm s a g))) where
     pub bins-few : n ≤ g
     bins-few = omega (arith, occupied-few (codesIn panakoForm s a g), codes-length panakoForm s a g fits)
 
     pub bins-number : n ≡ binCount (votesIn s a g)
     bins-number = number ∙ sym count-by-codes
 
-    pub bins-outside : SameOutside s l at (at + 3 * g)
-    bins-outside = rw written (stored-outside s s at (at + 3 * g) at (binsOf panakoForm middle (codesIn panakoForm s a g)) (outside-none s at (at + 3 * g)) (omega arith) (omega (arith, bins-length panakoForm middle (codesIn panakoForm s a g), bins-few)))
+    pub bins-outside : SameOutside s l at (at + 4 * g)
+    bins-outside = rw written (stored-outside s s at (at + 4 * g) at (binsOf panakoForm middle (codesIn panakoForm s a g)) (outside-none s at (at + 4 * g)) (omega arith) (omega (arith, bins-length panakoForm middle (codesIn panakoForm s a g), bins-few)))
 
-    -- the part that is lent
-    part-words : take (at + 3 * n - at) (drop at l) ≡ binsOf panakoForm middle (codesIn panakoForm s a g)
+    -- the part that holds them
+    part-words : take (3 * n) (drop at l) ≡ binsOf panakoForm middle (codesIn panakoForm s a g)
     part-words =
         let bins = binsOf panakoForm middle (codesIn panakoForm s a g) in
         let k = bins-length panakoForm middle (codesIn panakoForm s a g) in
-        let e : at + 3 * n - at ≡ length bins = omega (arith, k, number) in
+        let e : 3 * n ≡ length bins = omega (arith, k, number) in
         rw (e, written) (stored-read s at bins (omega (arith, k, number, bins-few)))
 
-    pub part-is : take (at + 3 * n - at) (drop at l) ≡ votes.houghBins (votesIn s a g)
+    pub part-is : take (3 * n) (drop at l) ≡ votes.houghBins (votesIn s a g)
     part-is = part-words ∙ sym bins-by-codes
 
     -- behind the votes: they are as they were, and the bins stand there
@@ -95,7 +95,7 @@ module _ (s : List ℤ) (a g : ℕ) (fits : a + g ≤ length s) where
         )
 
 -- what `count_few` says of the first g votes, whether it counted them or not
-module _ (s l : List ℤ) (g at n : ℕ) (before : g ≤ at) (room : at + 3 * g ≤ length s) (told : n ≡ counted (length (occupied (codesIn panakoForm s 0 g))))
+module _ (s l : List ℤ) (g at n : ℕ) (before : g ≤ at) (room : at + 4 * g ≤ length s) (told : n ≡ counted (length (occupied (codesIn panakoForm s 0 g))))
     (left : l ≡ cond (isFew (length (occupied (codesIn panakoForm s 0 g)))) (stored s at (binsOf panakoForm middle (codesIn panakoForm s 0 g))) s) where
   binned : isFew (length (occupied (codesIn panakoForm s 0 g))) ≡ true → (take g l ≡ take g s) × Binned l g at n
   binned t = few-binned s 0 g (omega arith) at n l room (rw t at told) (rw t at left) refl before

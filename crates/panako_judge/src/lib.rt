@@ -8,7 +8,7 @@ ghost use Rattle.query_rank.specs.Verdicts.{verdictOf};
 ghost use Rattle.gates.specs.Gates.{admits, peakGates, resultAt, passing};
 ghost use Rattle.few_bins.specs.Tally.{counted};
 ghost use Rattle.hough.specs.Hough.{scale, peakOffset};
-ghost use Rattle.hough.specs.Limits.{Bins};
+ghost use Rattle.hough.specs.Limits.{Bins, Roomy, Summed};
 ghost use Rattle.panako_judge.specs.Judge.{binCount, seenOf, thresholdsOf, atPeak, timeScaleOf, resultOf, judgeBy};
 ghost use Rattle.panako_judge.specs.Candidates.{votesIn, Candidate, Binned};
 use bins::Form;
@@ -65,21 +65,19 @@ fn result(
     gates::result(score, p.votes, prominence, frames, fps, scale)
 }
 
-// Steps 3 and 4, of n bins.
+// Steps 3 and 4, of n bins with their sums behind them.
 fn weigh(s: &[i64], n: usize, q: PanakoQuery, fps: f32) -> Verdict
-    requires { ⌜ Bins (now s) n × (0 < n) × (q .cfg .«offset_tolerance_frames» ≤ 65535) ⌝ }
-    ensures { λ r. ⌜ r ≡ verdictOf (passing (peakGates (thresholdsOf q) (atPeak (seenOf q (now (s .entry)) n))) (resultOf q fps (seenOf q (now (s .entry)) n))) ⌝ }
+    requires { ⌜ Roomy (now s) n × (0 < n) × (q .cfg .«offset_tolerance_frames» ≤ 65535) × Summed (now s) n (q .cfg .«offset_tolerance_frames») ⌝ }
+    ensures { λ r. ⌜ r ≡ verdictOf (passing (peakGates (thresholdsOf q) (atPeak (seenOf q (take (3 * n) (now (s .entry))) n))) (resultOf q fps (seenOf q (take (3 * n) (now (s .entry))) n))) ⌝ }
 {
     let cfg = q.cfg;
     let tol = slices::wide(cfg.offset_tolerance_frames);
-    let mut sums = [0u64; 32];
-    hough::few_sums(&mut sums, s, n, tol);
-    let p = hough::panako_hough_peak(s, n, tol, &sums);
+    let p = hough::panako_hough_peak(s, n, tol);
     let votes = p.votes;
     if votes < slices::wide(cfg.min_votes) {
         return Verdict::Barred;
     }
-    let prominence = hough::panako_prominence(s, n, tol, p, &sums);
+    let prominence = hough::panako_prominence(s, n, tol, p);
     if matching::below_threshold(prominence, cfg.min_prominence) {
         return Verdict::Barred;
     }
@@ -87,7 +85,18 @@ fn weigh(s: &[i64], n: usize, q: PanakoQuery, fps: f32) -> Verdict
     if matching::below_threshold(score, cfg.min_score) {
         return Verdict::Barred;
     }
-    Verdict::Passed(result(s, n, q, p, score, prominence, fps))
+    let e = 3 * n;
+    Verdict::Passed(result(&s[..e], n, q, p, score, prominence, fps))
+}
+
+// The same of n bins, with the words behind them for their sums.
+fn sum_and_weigh(s: &mut [i64], n: usize, q: PanakoQuery, fps: f32) -> Verdict
+    requires { ⌜ Roomy (now s) n × (0 < n) × (q .cfg .«offset_tolerance_frames» ≤ 65535) ⌝ }
+    ensures { λ r. ⌜ r ≡ verdictOf (passing (peakGates (thresholdsOf q) (atPeak (seenOf q (take (3 * n) (now (s .entry))) n))) (resultOf q fps (seenOf q (take (3 * n) (now (s .entry))) n))) ⌝ }
+{
+    let cfg = q.cfg;
+    hough::put_sums(s, n, slices::wide(cfg.offset_tolerance_frames));
+    weigh(s, n, q, fps)
 }
 
 // Steps 1 and 2, of a candidate with g votes whose row has the rate fps.
@@ -98,19 +107,20 @@ fn admitted(q: PanakoQuery, fps: f32, g: usize) -> bool
     gates::admitted(q.frames_per_sec, fps, cfg.min_votes, g)
 }
 
-// A candidate: the g votes from word a on, in order, and its row's rate. Its bins are written from word `at` on.
+// A candidate: the g votes from word a on, in order, and its row's rate. Its bins and their sums are written from word
+// `at` on.
 pub fn judge(s: &mut [i64], a: usize, g: usize, at: usize, q: PanakoQuery, rate: u32) -> Verdict
     requires { ⌜ Candidate (now s) a g at q ⌝ }
     ensures { λ r. ⌜ (r ≡ verdictOf (judgeBy q rate (votesIn (now (s .entry)) a g)))
-        × SameOutside (now (s .entry)) (now (s .exit)) at (at + 3 * g) ⌝ }
+        × SameOutside (now (s .entry)) (now (s .exit)) at (at + 4 * g) ⌝ }
 {
     let fps = floats::f32_from_bits(rate);
     if !admitted(q, fps, g) {
         return Verdict::Barred;
     }
     let n = bins::count_sorted(s, a, g, at, FORM, MIDDLE as u64);
-    let e = at + 3 * n;
-    weigh(&s[at..e], n, q, fps)
+    let e = at + 4 * n;
+    sum_and_weigh(&mut s[at..e], n, q, fps)
 }
 
 // ---- a candidate with few bins
@@ -118,7 +128,7 @@ pub fn judge(s: &mut [i64], a: usize, g: usize, at: usize, q: PanakoQuery, rate:
 // The bins of the first g votes, where they are few, are written from word `at` on: no order is asked of the votes. Yields how many bins there are,
 // or 0 where they are more.
 pub fn count_few(s: &mut [i64], g: usize, at: usize) -> usize
-    requires { ⌜ (g ≤ at) × (at + 3 * g ≤ length (now s)) × (g ≤ 1000000) ⌝ }
+    requires { ⌜ (g ≤ at) × (at + 4 * g ≤ length (now s)) × (g ≤ 1000000) ⌝ }
     ensures { λ n. ⌜ n ≡ counted (binCount (votesIn (now (s .entry)) 0 g)) ⌝ }
     ensures { λ n. ⌜ (0 < n → Binned (now (s .exit)) g at n) ⌝ }
     ensures { λ _. ⌜ take g (now (s .exit)) ≡ take g (now (s .entry)) ⌝ }
@@ -126,8 +136,15 @@ pub fn count_few(s: &mut [i64], g: usize, at: usize) -> usize
     few_bins::count_few(s, 0, g, at, FORM, MIDDLE as u64)
 }
 
-// A candidate: the first g votes, its row's rate, and its n bins from word `at` on.
-pub fn judge_binned(s: &[i64], g: usize, at: usize, n: usize, q: PanakoQuery, rate: u32) -> Verdict
+// A candidate: the first g votes, its row's rate, and its n bins from word `at` on. Their sums are written behind them.
+pub fn judge_binned(
+    s: &mut [i64],
+    g: usize,
+    at: usize,
+    n: usize,
+    q: PanakoQuery,
+    rate: u32,
+) -> Verdict
     requires { ⌜ Binned (now s) g at n × (0 < g) × (g ≤ 1000000) × (q .cfg .«offset_tolerance_frames» ≤ 65535) ⌝ }
     ensures { λ r. ⌜ r ≡ verdictOf (judgeBy q rate (votesIn (now (s .entry)) 0 g)) ⌝ }
 {
@@ -135,6 +152,6 @@ pub fn judge_binned(s: &[i64], g: usize, at: usize, n: usize, q: PanakoQuery, ra
     if !admitted(q, fps, g) {
         return Verdict::Barred;
     }
-    let e = at + 3 * n;
-    weigh(&s[at..e], n, q, fps)
+    let e = at + 4 * n;
+    sum_and_weigh(&mut s[at..e], n, q, fps)
 }

@@ -26,8 +26,8 @@ module _ (rs ps hs : List ℕ) (q : PanakoQuery) (P : Posted rs ps hs q) (post-b
       (hashesIn q hs) (small-hashes (q .«q_len») hs hash-bits) 0 (omega arith)
 
 module _ (rs : List ℕ) (q : PanakoQuery) (zs : List ℤ) (known : All (Known rs) zs) (s : List ℤ) (v : ℕ) (e : v ≡ length zs) where
-  pub sorted-votes : Limits rs q → take v s ≡ sortZ zs → v ≤ 1000000 → 5 * v ≤ length s → Votes rs s v q
-  sorted-votes limits sorted few room = record { limits = limits; words = sorting.sorted-votes zs s v e sorted (Known rs) 5 known few room }
+  pub sorted-votes : Limits rs q → take v s ≡ sortZ zs → v ≤ 1000000 → 6 * v ≤ length s → Votes rs s v q
+  sorted-votes limits sorted few room = record { limits = limits; words = sorting.sorted-votes zs s v e sorted (Known rs) 6 known few room }
 
   -- the first of them, before they are sorted
   pub first-known : take v s ≡ zs → 0 < v → Known rs (getD s 0 (pos 0))

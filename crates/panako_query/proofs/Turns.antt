@@ -35,7 +35,7 @@ rises q y z h = recording-le (above lowest y) (above lowest z) (above-le lowest 
 
 -- the words before i are judged
 abbrev pub Walked : List ℕ → PanakoQuery → List ℤ → List ℤ → ℕ → Option (ℕ × MatchResult) → ℕ → Type 0
-Walked rs q s₀ s v best i = Judged (reading q) rs (Known rs) 5 s₀ s v best i
+Walked rs q s₀ s v best i = Judged (reading q) rs (Known rs) 6 s₀ s v best i
 
 module _ (rs : List ℕ) (q : PanakoQuery) (s₀ s : List ℤ) (v : ℕ) (best : Option (ℕ × MatchResult)) (i : ℕ) (J : Walked rs q s₀ s v best i) (h : i < v)
     (e : ℕ) (U : Run (λ (t : ℕ). leadOf lowest 52 (getD s t (pos 0))) i v e) where
@@ -51,6 +51,7 @@ module _ (rs : List ℕ) (q : PanakoQuery) (s₀ s : List ℤ) (v : ℕ) (best :
       before = omega (arith, U .within, U .since);
       room = omega (arith, U .within, U .since, J .votes .room);
     };
+    room = omega (arith, U .within, U .since, J .votes .room);
   }
 
   -- a turn, by what the calls say
@@ -58,5 +59,5 @@ module _ (rs : List ℕ) (q : PanakoQuery) (s₀ s : List ℤ) (v : ℕ) (best :
       → id ≡ recordingOf (getD s i (pos 0)) → rate ≡ rowWord rs id atRate
       → r ≡ verdictOf (judgeBy q rate (votesIn s i (e - i))) → best′ ≡ trackBest best id (resultIn r) → Walked rs q s₀ s′ v best′ e
   walked-on s′ to len S id rate r best′ e1 e2 e3 e4 =
-      turn (reading q) rs (Known rs) 5 (omega arith) (rises q) (λ z k. k) s₀ s v best i J h e U s′ (2 * v) to (omega arith) len S id r best′ e1
+      turn (reading q) rs (Known rs) 6 (omega arith) (rises q) (λ z k. k) s₀ s v best i J h e U s′ (2 * v) to (omega arith) len S id r best′ e1
       (e3 ∙ ap (λ (n : ℕ). verdictOf (judgeBy q n (votesIn s i (e - i)))) e2) e4

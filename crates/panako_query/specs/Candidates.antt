@@ -57,10 +57,10 @@ pub record Limits (rs : List ℕ) (q : PanakoQuery) : Type 0 where
 abbrev pub Known : List ℕ → ℤ → Type 0
 Known rs z = recordingOf z < getD rs 0 0
 
--- the first v words are votes in ascending order; there are as many words for the sort, and three times as many for bins
+-- the first v words are votes in ascending order; there are as many words for the sort, and four times as many for bins and their sums
 pub record Votes (rs : List ℕ) (s : List ℤ) (v : ℕ) (q : PanakoQuery) : Type 0 where
   pub limits : Limits rs q
-  pub words : of-reading.Votes (Known rs) 5 s v
+  pub words : of-reading.Votes (Known rs) 6 s v
 
 -- the first v words are votes of one recording
 pub record OneRecording (s : List ℤ) (v : ℕ) : Type 0 where

@@ -21,7 +21,7 @@ use panako_vote::ScaleGrid;
 use query_rank::Best;
 use query_rank::Finding;
 
-// The best candidate by the first v words, which are votes in ascending order. Bins are written from word 2 * v on.
+// The best candidate by the first v words, which are votes in ascending order. Bins and sums are written from word 2 * v on.
 fn best_of(s: &mut [i64], v: usize, refs: &[u32], q: PanakoQuery) -> Best
     requires { ⌜ Votes (now refs) (now s) v q ⌝ }
     ensures { λ r. ⌜ bestSoFar r ≡ bestIn q (now (refs .entry)) (take v (now (s .entry))) ⌝ }
@@ -55,7 +55,7 @@ fn main_votes(s: &mut [i64], v: usize, q: PanakoQuery) -> usize
 // The bins of the first v words, where these are votes of one recording and the bins are few, as in most queries that are answered: no order is asked
 // of the votes. The bins are written from word 2 * v on. Yields how many they are, or 0 where they are not counted.
 fn few_bins(s: &mut [i64], v: usize) -> usize
-    requires { ⌜ (5 * v ≤ length (now s)) × (v ≤ 1000000) ⌝ }
+    requires { ⌜ (6 * v ≤ length (now s)) × (v ≤ 1000000) ⌝ }
     ensures { λ n. ⌜ (0 < n → Alike (now (s .exit)) v n) ⌝ }
     ensures { λ _. ⌜ take v (now (s .exit)) ≡ take v (now (s .entry)) ⌝ }
     ensures { λ n. ⌜ (OneRecording (now (s .entry)) v → n ≡ counted (binCount (votesIn (now (s .entry)) 0 v))) ⌝ }
@@ -69,8 +69,9 @@ fn few_bins(s: &mut [i64], v: usize) -> usize
     panako_judge::count_few(s, v, 2 * v)
 }
 
-// The best candidate by the first v words, which are votes of one recording: their n bins stand from word 2 * v on.
-fn best_of_few(s: &[i64], v: usize, n: usize, refs: &[u32], q: PanakoQuery) -> Best
+// The best candidate by the first v words, which are votes of one recording: their n bins stand from word 2 * v on, and their
+// sums are written behind them.
+fn best_of_few(s: &mut [i64], v: usize, n: usize, refs: &[u32], q: PanakoQuery) -> Best
     requires { ⌜ Limits (now refs) q × Alike (now s) v n × Known (now refs) (getD (now s) 0 (pos 0)) × (v ≤ 1000000) ⌝ }
     ensures { λ r. ⌜ bestSoFar r ≡ bestIn q (now (refs .entry)) (take v (now (s .entry))) ⌝ }
 {
@@ -99,7 +100,7 @@ fn best_candidate(
     g: ScaleGrid,
 ) -> Best
     requires { ⌜ Posted (now refs) (now posts) (now hashes) q × (p ≡ getD (now refs) 2 0) × (g ≡ gridOf (q .cfg))
-        × (length (wordsIn q (now refs) (now posts) (now hashes)) ≤ 1000000) × (5 * length (wordsIn q (now refs) (now posts) (now hashes)) ≤ length (now s))
+        × (length (wordsIn q (now refs) (now posts) (now hashes)) ≤ 1000000) × (6 * length (wordsIn q (now refs) (now posts) (now hashes)) ≤ length (now s))
         × Starts (now posts) 5 p (now hashes) 4 (q .«q_len») (now starts) × Ends (now posts) 5 p (now hashes) 4 (q .«q_len») (now ends)
         × (q .«q_len» ≤ length (now starts)) × (q .«q_len» ≤ length (now ends)) × (q .«q_len» ≤ length (now which)) ⌝ }
     ensures { λ r. ⌜ bestSoFar r ≡ bestIn q (now (refs .entry)) (wordsIn q (now (refs .entry)) (now (posts .entry)) (now (hashes .entry))) ⌝ }

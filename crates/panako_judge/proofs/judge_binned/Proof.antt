@@ -12,6 +12,7 @@ use Rattle.panako_vote.specs.Words.{Vote}
 use Rattle.panako_judge.specs.Judge.{thresholdsOf, atPeak, resultOf}
 use Rattle.panako_judge.specs.Candidates.{votesIn}
 use Rattle.panako_judge.proofs.Words.{votes-length, bins-good, bins-some, weighed-bins}
+use Rattle.panako_judge.proofs.Lent.{lent-bins, lent-roomy}
 use Rattle.panako_judge.proofs.Gates.{seen, judged-by}
 use borrow.Author.Needs.{needs}
 use Rattle.panako_judge.proofs.judge_binned.Statement.{statement}
@@ -52,38 +53,42 @@ mul-e c = search needs
 add-e : tie.Need-add-e
 add-e c = search needs
 
-mul-weigh : tie.Need-mul-weigh
-mul-weigh c = search needs
+mul-sum-and-weigh : tie.Need-mul-sum-and-weigh
+mul-sum-and-weigh c = search needs
 
-sub-weigh : tie.Need-sub-weigh
-sub-weigh c = search needs
+sub-sum-and-weigh : tie.Need-sub-sum-and-weigh
+sub-sum-and-weigh c = search needs
 
-part-weigh-start : tie.Need-part-weigh-start
-part-weigh-start c = search needs
+part-sum-and-weigh-start : tie.Need-part-sum-and-weigh-start
+part-sum-and-weigh-start c = search needs
 
-part-weigh-end : tie.Need-part-weigh-end
-part-weigh-end c = search needs
+part-sum-and-weigh-end : tie.Need-part-sum-and-weigh-end
+part-sum-and-weigh-end c = search needs
 
-weigh-requires : tie.Need-weigh-requires
-weigh-requires c κs =
+sum-and-weigh-requires : tie.Need-sum-and-weigh-requires
+sum-and-weigh-requires c κs =
     let o = c .before .before .before .before in
     let b = o .pre .0 in (
-      bins-good (o .args .s .now) 0 (o .args .g) (fits o) (o .args .n) _ (b .number) (b .bins) (o .pre .2),
+      lent-roomy (o .args .s .now) (o .args .at) (o .args .n) (b .room) (bins-good (o .args .s .now) 0 (o .args .g) (fits o) (o .args .n) _ (b .number) (b .bins) (o .pre .2)),
       bins-some (o .args .s .now) 0 (o .args .g) (fits o) (o .args .n) _ (b .number) (b .bins) (o .pre .1),
       o .pre .3,
     )
 
+same-length : tie.Need-same-length
+same-length c = search needs
+
 returns-2 : tie.Need-returns-2
 returns-2 c =
-    let e = c .before .before in
+    let k = c .before in
+    let e = k .before .before in
     let o = start (e .before) in
     let q = o .args .q in
     let f = e .before .before .f32-from-bits in
     let w = seen q (o .args .rate) (votes o) in
     let b = o .pre .0 in
-    judged-by q (o .args .rate) (votes o) (f .result) (f .ensures) (c .weigh .result)
-    (goes-on (thresholdsOf q) (f .result) (length (votes o)) (atPeak w) (resultOf q (f .result) w) (sym (entry (e .before)) ∙ not-false _ (e .if1 .left)) (c .weigh .result)
-    (weighed-bins (o .args .s .now) 0 (o .args .g) (fits o) (o .args .n) _ (b .number) (b .bins) q (f .result) (c .weigh .result) (c .weigh .ensures)))
+    judged-by q (o .args .rate) (votes o) (f .result) (f .ensures) (k .sum-and-weigh .result)
+    (goes-on (thresholdsOf q) (f .result) (length (votes o)) (atPeak w) (resultOf q (f .result) w) (sym (entry (e .before)) ∙ not-false _ (e .if1 .left)) (k .sum-and-weigh .result)
+    (weighed-bins (o .args .s .now) 0 (o .args .g) (fits o) (o .args .n) _ (b .number) (lent-bins (o .args .s .now) (o .args .at) (o .args .n) (b .room) ∙ b .bins) q (f .result) (k .sum-and-weigh .result) (k .sum-and-weigh .ensures)))
 
 pub judge-binned-spec : {M : Type 1} → statement M
 judge-binned-spec =
@@ -94,9 +99,10 @@ judge-binned-spec =
     returns
     mul-e
     add-e
-    mul-weigh
-    sub-weigh
-    part-weigh-start
-    part-weigh-end
-    weigh-requires
+    mul-sum-and-weigh
+    sub-sum-and-weigh
+    part-sum-and-weigh-start
+    part-sum-and-weigh-end
+    sum-and-weigh-requires
+    same-length
     returns-2)

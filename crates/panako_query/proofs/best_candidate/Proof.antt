@@ -54,7 +54,7 @@ module _ (m : tie.After-main-votes) where
   chosen : take (m .main-votes .result) (m .main-votes .last .0) ≡ mains
   chosen = m .main-votes .ensures .0 ∙ ap (mainIn (s g .args .q)) (gathered g)
 
-  room : 5 * m .main-votes .result ≤ length (m .main-votes .last .0)
+  room : 6 * m .main-votes .result ≤ length (m .main-votes .last .0)
   room = omega (arith, m .main-votes .ensures .1, m .main-votes .kept .0, many g, g .gather .kept .0, s g .pre .4)
 
   most : m .main-votes .result ≡ length mains
@@ -107,10 +107,11 @@ same-length-2 c = search needs
 
 returns : tie.Need-returns
 returns c =
-    let f = c .before .before .before .before in
+    let b = c .before in
+    let f = b .before .before .before .before in
     let k = g (m f) in
     let a = s k .args in
-    c .best-of-few .ensures ∙ ap (bestIn (a .q) (a .refs .now)) (kept f) ∙ main-best (a .q) (a .refs .now) (words k)
+    b .best-of-few .ensures ∙ ap (bestIn (a .q) (a .refs .now)) (kept f) ∙ main-best (a .q) (a .refs .now) (words k)
 
 sort-words-requires : tie.Need-sort-words-requires
 sort-words-requires c κs =

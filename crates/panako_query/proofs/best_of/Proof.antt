@@ -17,7 +17,7 @@ abbrev μ-loop : tie.MeasureT-loop
 μ-loop s₀ v refs q best₀ i₀ s best i = v - i
 
 loop-holds : tie.Need-loop-holds Inv-loop μ-loop
-loop-holds c = let a = c .before .args in judged-none (reading (a .q)) (a .refs .now) (Known (a .refs .now)) 5 (a .s .now) (a .v) (c .before .pre .words)
+loop-holds c = let a = c .before .args in judged-none (reading (a .q)) (a .refs .now) (Known (a .refs .now)) 6 (a .s .now) (a .v) (c .before .pre .words)
 
 lead-run-end-requires : tie.Need-lead-run-end-requires Inv-loop μ-loop
 lead-run-end-requires c κs = omega (arith, c .before .before .loop .inv .votes .room)
@@ -66,7 +66,7 @@ returns c =
     let a = c .before .before .before .args in
     let l = c .before .loop in
     let e : l .i ≡ a .v = omega (arith, l .inv .on) in
-    judged-all (reading (a .q)) (a .refs .now) (Known (a .refs .now)) 5 (a .s .now) (l .s) (a .v) (bestSoFar (l .best)) (rw e at (l .inv))
+    judged-all (reading (a .q)) (a .refs .now) (Known (a .refs .now)) 6 (a .s .now) (l .s) (a .v) (bestSoFar (l .best)) (rw e at (l .inv))
 
 pub best-of-spec : {M : Type 1} → statement M
 best-of-spec =

@@ -23,11 +23,14 @@ judge-binned-requires c κs = search needs
 keep-requires : tie.Need-keep-requires
 keep-requires c κs = search needs
 
+same-length : tie.Need-same-length
+same-length c = search needs
+
 returns : tie.Need-returns
 returns c =
-    let j = c .before in
-    let w = j .before in
-    let o = w .before .before .before in
+    let j = c .before .before in
+    let w = j .before .before in
+    let o = w .before .before .before .before in
     few-best (o .args .refs .now) (o .args .q) (o .args .s .now) (o .args .v) (o .args .n) (o .pre .1) (o .pre .2)
     (w .before .lead-at .result) (w .row-word .result) (j .judge-binned .result) (bestSoFar (c .keep .result))
     (w .before .lead-at .ensures) (w .row-word .ensures) (j .judge-binned .ensures) (c .keep .ensures)
@@ -42,4 +45,5 @@ best-of-few-spec =
     mul-judge-binned
     judge-binned-requires
     keep-requires
+    same-length
     returns)
