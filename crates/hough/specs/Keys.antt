@@ -14,6 +14,14 @@ use Rattle.hough.specs.declared.Peak.{Peak}
 use Rattle.hough.specs.declared.Windows.{Windows}
 use Rattle.hough.specs.declared.Background.{Background}
 
+-- up to so many bins the code looks at every pair of them, and up to so small a tolerance at every offset within it; for more, the work
+-- of these two ways would grow faster than the bins
+abbrev pub fewBins : ℕ
+fewBins = 24
+
+abbrev pub smallTolerance : ℕ
+smallTolerance = 4
+
 -- a row of keys for each scale bin
 abbrev pub row : ℕ
 row = 2 ^ 41

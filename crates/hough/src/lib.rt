@@ -21,7 +21,7 @@ ghost use Rattle.maps.specs.Words.{natOf};
 ghost use Rattle.consolidate.specs.Windows.{Passed, Slides, Covers};
 ghost use Rattle.hough.specs.Hough.{scale, offset, votes, dist, far, houghSum, houghPeak, peakOffset, farSum, farCount, meanOf, prominence};
 ghost use Rattle.hough.specs.Limits.{before, Bins, Roomy, Written, Summed, Kept, WithSums, binOk, binsOk, houghOk, answerAt, checkedAnswer, leftAfter};
-ghost use Rattle.hough.specs.Keys.{place, key, nearBy, Ready, Around, atStart, betterOf, moreOf, Ahead, Clear, countAt, frameTally};
+ghost use Rattle.hough.specs.Keys.{fewBins, smallTolerance, place, key, nearBy, Ready, Around, atStart, betterOf, moreOf, Ahead, Clear, countAt, frameTally};
 use consolidate::Pass;
 use consolidate::Tally;
 use consolidate::Window;
@@ -158,7 +158,7 @@ fn add_bin(s: &mut [i64], n: usize, tol: u64, i: usize)
 
 // The sum of each bin, pair by pair.
 fn pair_sums(s: &mut [i64], n: usize, tol: u64)
-    requires { ⌜ Roomy (now s) n × (tol ≤ 65535) ⌝ }
+    requires { ⌜ Roomy (now s) n × (tol ≤ 65535) × (n ≤ fewBins) ⌝ }
     ensures { λ _. ⌜ WithSums (now (s .entry)) (now (s .exit)) n tol ⌝ }
 {
     let mut i: usize = 0;
@@ -466,7 +466,7 @@ fn direct_at(s: &[i64], n: usize, k: u64, x: u64) -> u64
 
 // The same tally, by a look at every bin for every offset within the tolerance.
 fn direct_tally(s: &[i64], n: usize, tol: u64, i: usize) -> Tally
-    requires { ⌜ Bins (now s) n × (tol ≤ 65535) × (i < n) ⌝ }
+    requires { ⌜ Bins (now s) n × (tol ≤ 65535) × (i < n) × (n ≤ fewBins) × (tol ≤ smallTolerance) ⌝ }
     ensures { λ r. ⌜ r ≡ frameTally (now (s .entry)) n tol i (2 * tol + 1) ⌝ }
 {
     let k = scale_at(s, n, i);
