@@ -1,4 +1,4 @@
-//! Links the proved library, which `rt staticlib capi` writes.
+//! Links the proved libraries, which `rt staticlib` writes.
 
 use std::path::Path;
 
@@ -7,13 +7,15 @@ fn main() {
     let folder = root
         .expect("compare/ has a parent")
         .join("target/staticlib");
-    let library = folder.join("libcapi.a");
     println!("cargo:rerun-if-changed=build.rs");
-    println!("cargo:rerun-if-changed={}", library.display());
-    assert!(
-        library.exists(),
-        "target/staticlib/libcapi.a is not there: run `rt staticlib capi` first"
-    );
     println!("cargo:rustc-link-search=native={}", folder.display());
-    println!("cargo:rustc-link-lib=static=capi");
+    for name in ["capi", "sheet_capi"] {
+        let library = folder.join(format!("lib{name}.a"));
+        println!("cargo:rerun-if-changed={}", library.display());
+        assert!(
+            library.exists(),
+            "target/staticlib/lib{name}.a is not there: run `rt staticlib {name}` first"
+        );
+        println!("cargo:rustc-link-lib=static={name}");
+    }
 }

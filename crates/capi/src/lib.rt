@@ -2,7 +2,6 @@
 // 7FF8000000000000 (hexadecimal) where it is a result; a slice passes as a pointer and a length.
 pub mod index;
 mod leaves;
-mod sheet;
 
 ghost use mathlib.Core.Path.{_≡_};
 ghost use mathlib.Core.List.{[], _∷_};

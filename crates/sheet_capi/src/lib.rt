@@ -1,4 +1,5 @@
-// The sheet of a card that is held in memory, as the program `sheet` prints it.
+// The sheet of a card that is held in memory, for C. A library of its own: with it in `capi`, a query would have two callers and no longer be laid down
+// inside the one.
 ghost use mathlib.Core.Path.{_≡_};
 ghost use mathlib.Core.Bool.{false};
 ghost use Rattle.sheet_text.specs.Put.{Put};
