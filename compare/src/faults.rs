@@ -45,7 +45,7 @@ mod c {
 const INPUT: &str = "standard input";
 const OUTPUT: &str = "standard output";
 /// No wait is longer.
-const PATIENCE: Duration = Duration::from_secs(60);
+const PATIENCE: Duration = Duration::from_secs(30);
 
 pub fn run(run: &mut Run) {
     run.check("sheet, writes that fail", writes_that_fail);
@@ -414,14 +414,16 @@ fn input_byte_by_byte(check: &mut Check) {
     for (card, pause) in [(removals(4), 2), (removals(300), 0)] {
         let (input, mut feed) = pipe().expect("a pipe");
         let (mut from, to) = pipe().expect("a pipe");
+        never_wait(from.as_raw_fd());
         let child = start(sheet(input, to));
+        // It has started, and waits for the first byte.
+        let mut printed = wait_for(&mut from, "sheet 1\n".len());
         for byte in &card {
             feed.write_all(&[*byte]).expect("the program reads");
             std::thread::sleep(Duration::from_millis(pause));
         }
         drop(feed);
-        let mut printed = Vec::new();
-        from.read_to_end(&mut printed).expect("the pipe is read");
+        printed.extend(wait_for(&mut from, usize::MAX));
         let (said, _) = ended(child);
         whole(check, "byte by byte", &card, &printed, &said);
     }
@@ -452,18 +454,23 @@ fn lines_as_they_are_made(check: &mut Check) {
             (start(sheet(input, to)), Box::new(from))
         };
         let (mut lines, mut printed) = (expected.split_inclusive('\n'), Vec::new());
-        let mut next = |printed: &mut Vec<u8>| {
+        let mut next = |check: &mut Check| {
             let line = lines.next().expect("a line more");
-            printed.extend(wait_for(&mut from, line.len()));
+            let came = wait_for(&mut from, line.len());
+            check.holds(came == line.as_bytes(), || {
+                let came = String::from_utf8_lossy(&came);
+                format!("  line by line: {came:?} came, expected {line:?}\n")
+            });
+            printed.extend(came);
         };
-        next(&mut printed);
+        next(check);
         feed.write_all(&card[..1]).expect("the program reads");
         for record in card[1..].chunks(9) {
             feed.write_all(record).expect("the program reads");
-            next(&mut printed);
+            next(check);
         }
         drop(feed);
-        next(&mut printed);
+        next(check);
         let (said, _) = ended(child);
         whole(check, "line by line", &card, &printed, &said);
     }
