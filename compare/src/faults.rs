@@ -5,7 +5,7 @@
 use crate::harness::{Check, Run};
 use crate::sheet::{program, removals, sheet_of};
 use std::fs::{File, OpenOptions};
-use std::io::{PipeReader, Read, Write, pipe};
+use std::io::{PipeReader, PipeWriter, Read, Write, pipe};
 use std::os::fd::{AsRawFd, FromRawFd, RawFd};
 use std::os::unix::fs::OpenOptionsExt;
 use std::os::unix::process::{CommandExt, ExitStatusExt};
@@ -166,249 +166,209 @@ fn line(side: &str, error: i32) -> String {
     format!("sheet: {side}: {text}\n")
 }
 
-/// What was printed is the beginning of the sheet in whole lines, at least so
-/// many, without the last one; and this was said.
-fn cut(
-    check: &mut Check,
-    what: &str,
-    card: &[u8],
-    lines: usize,
-    printed: &[u8],
-    said: &str,
-    expected: &str,
-) {
-    let whole = sheet_of(card);
-    let printed = String::from_utf8_lossy(printed);
-    let last = whole.trim_end().rfind('\n').expect("it has two lines") + 1;
-    let is_cut = whole[..last].starts_with(&*printed)
-        && (printed.is_empty() || printed.ends_with('\n'))
-        && printed.lines().count() >= lines;
-    check.holds(is_cut && said == expected, || {
-        format!("  {what}\n  printed {printed:?}\n  said {said:?}, expected {expected:?}\n")
-    });
+/// A card, what was printed of its sheet, and what was said.
+struct Seen<'a> {
+    what: &'a str,
+    card: &'a [u8],
+    printed: Vec<u8>,
+    said: String,
 }
 
-// ---- writes
+impl Seen<'_> {
+    /// What was printed is the beginning of the sheet in whole lines, at least
+    /// so many, without the last one; and the line of this failure was said.
+    fn is_cut(&self, check: &mut Check, lines: usize, side: &str, error: i32) {
+        let (whole, expected) = (sheet_of(self.card), line(side, error));
+        let printed = String::from_utf8_lossy(&self.printed);
+        let last = whole.trim_end().rfind('\n').expect("it has two lines") + 1;
+        let is_cut = whole[..last].starts_with(&*printed)
+            && (printed.is_empty() || printed.ends_with('\n'))
+            && printed.lines().count() >= lines;
+        check.holds(is_cut && self.said == expected, || {
+            let Self { what, said, .. } = self;
+            format!("  {what}\n  printed {printed:?}\n  said {said:?}, expected {expected:?}\n")
+        });
+    }
 
-/// A pipe that has all of a card, or as much as it takes, and stays open.
-fn piped(card: &[u8]) -> (PipeReader, std::io::PipeWriter) {
+    /// What was printed is the sheet, and nothing was said.
+    fn is_whole(&self, check: &mut Check) {
+        let is_whole = self.printed == sheet_of(self.card).as_bytes() && self.said.is_empty();
+        check.holds(is_whole, || {
+            let printed = String::from_utf8_lossy(&self.printed);
+            let Self { what, said, .. } = self;
+            format!("  {what}\n  printed {printed:?}\n  said {said:?}\n")
+        });
+    }
+}
+
+/// A pipe that has a short card, and what keeps it open.
+fn piped(card: &[u8]) -> (PipeReader, PipeWriter) {
     let (reader, mut writer) = pipe().expect("a pipe");
     writer.write_all(card).expect("the pipe takes it");
     (reader, writer)
 }
 
-fn writes_that_fail(check: &mut Check) {
+fn all_of(mut reader: impl Read) -> Vec<u8> {
+    let mut printed = Vec::new();
+    reader.read_to_end(&mut printed).expect("the pipe is read");
+    printed
+}
+
+/// The program on this input, its output read afterwards.
+fn seen<'a>(what: &'a str, card: &'a [u8], command: impl FnOnce(Stdio) -> Command) -> Seen<'a> {
+    let (from, to) = pipe().expect("a pipe");
+    let (said, _) = ended(start(command(to.into())));
+    let printed = all_of(from);
+    Seen {
+        what,
+        card,
+        printed,
+        said,
+    }
+}
+
+// ---- writes
+
+/// The program on a short card, with an output that takes nothing.
+fn nothing_taken(
+    check: &mut Check,
+    what: &str,
+    output: impl Into<Stdio>,
+    prepare: fn(),
+    error: i32,
+) {
     let card = removals(3);
-    let full = || {
-        OpenOptions::new()
-            .write(true)
-            .open("/dev/full")
-            .expect("/dev/full opens")
+    let (said, _) = ended(start(prepared(sheet(piped(&card).0, output), prepare)));
+    let (card, printed) = (&card[..], Vec::new());
+    let seen = Seen {
+        what,
+        card,
+        printed,
+        said,
     };
-    let (said, _) = ended(start(sheet(piped(&card).0, full())));
-    cut(
-        check,
-        "/dev/full",
-        &card,
-        0,
-        &[],
-        &said,
-        &line(OUTPUT, c::ENOSPC),
-    );
+    seen.is_cut(check, 0, OUTPUT, error);
+}
 
-    let closed = prepared(sheet(piped(&card).0, Stdio::null()), || {
+/// The end for writing of a pipe that nobody reads.
+fn unread() -> PipeWriter {
+    let (reader, writer) = pipe().expect("a pipe");
+    drop(reader);
+    // Another thread's child may hold it until it is started.
+    std::thread::sleep(Duration::from_millis(20));
+    writer
+}
+
+/// A pipe that doesn't wait is full before the sheet ends.
+fn full_pipe(check: &mut Check, records: usize) {
+    let card = removals(records);
+    let (input, mut feed) = pipe().expect("a pipe");
+    let bytes = card.clone();
+    let feeder = std::thread::spawn(move || drop(feed.write_all(&bytes)));
+    let (from, to) = pipe().expect("a pipe");
+    never_wait(to.as_raw_fd());
+    let (said, _) = ended(start(sheet(input, to)));
+    feeder.join().expect("the card was handed over");
+    let (what, card, printed) = ("full pipe", &card[..], all_of(from));
+    let seen = Seen {
+        what,
+        card,
+        printed,
+        said,
+    };
+    seen.is_cut(check, 100, OUTPUT, c::EAGAIN);
+}
+
+fn writes_that_fail(check: &mut Check) {
+    let full = OpenOptions::new().write(true).open("/dev/full");
+    let full = full.expect("/dev/full opens");
+    nothing_taken(check, "/dev/full", full, || (), c::ENOSPC);
+    let close: fn() = || {
         c::close(1);
-    });
-    let (said, _) = ended(start(closed));
-    cut(
-        check,
-        "closed",
-        &card,
-        0,
-        &[],
-        &said,
-        &line(OUTPUT, c::EBADF),
-    );
-
-    // A pipe that nobody reads: by default the system ends the program.
-    let unread = |prepare: fn()| {
-        let (reader, writer) = pipe().expect("a pipe");
-        drop(reader);
-        // Another thread's child may hold it until it is started.
-        std::thread::sleep(Duration::from_millis(20));
-        ended(start(prepared(sheet(piped(&card).0, writer), prepare)))
     };
-    let (said, signal) = unread(|| ());
+    nothing_taken(check, "closed", Stdio::null(), close, c::EBADF);
+    let ignore: fn() = || {
+        c::signal(c::SIGPIPE, c::SIG_IGN);
+    };
+    nothing_taken(check, "unread pipe", unread(), ignore, c::EPIPE);
+    // By default the system ends the program there.
+    let (said, signal) = ended(start(sheet(piped(&removals(3)).0, unread())));
     check.holds(said.is_empty() && signal == Some(c::SIGPIPE), || {
         format!("  unread pipe: said {said:?}, signal {signal:?}\n")
     });
-    let (said, _) = unread(|| {
-        c::signal(c::SIGPIPE, c::SIG_IGN);
-    });
-    cut(
-        check,
-        "unread pipe",
-        &card,
-        0,
-        &[],
-        &said,
-        &line(OUTPUT, c::EPIPE),
-    );
-
-    // A full pipe that doesn't wait, read only afterwards.
-    for records in [20_000, 60_000] {
-        let (card, (mut reader, writer)) = (removals(records), pipe().expect("a pipe"));
-        never_wait(writer.as_raw_fd());
-        let (input, mut feed) = pipe().expect("a pipe");
-        let bytes = card.clone();
-        let feeder = std::thread::spawn(move || drop(feed.write_all(&bytes)));
-        let (said, _) = ended(start(sheet(input, writer)));
-        feeder.join().expect("the card was handed over");
-        let mut printed = Vec::new();
-        reader.read_to_end(&mut printed).expect("the pipe is read");
-        cut(
-            check,
-            "full pipe",
-            &card,
-            8000,
-            &printed,
-            &said,
-            &line(OUTPUT, c::EAGAIN),
-        );
-    }
-
     let Terminal { user, program } = terminal(true);
     drop(user);
-    let (said, _) = ended(start(sheet(piped(&card).0, program)));
-    cut(
-        check,
-        "terminal",
-        &card,
-        0,
-        &[],
-        &said,
-        &line(OUTPUT, c::EIO),
-    );
+    nothing_taken(check, "terminal", program, || (), c::EIO);
+    full_pipe(check, 20_000);
+    full_pipe(check, 60_000);
 }
 
 // ---- reads
 
-fn reads_that_fail(check: &mut Check) {
-    let output = |command: fn(Stdio) -> Command| {
-        let (mut reader, writer) = pipe().expect("a pipe");
-        let (said, _) = ended(start(command(writer.into())));
-        let mut printed = Vec::new();
-        reader.read_to_end(&mut printed).expect("the pipe is read");
-        (printed, said)
-    };
-    let (printed, said) = output(|to| sheet(File::open("/").expect("a folder opens"), to));
-    cut(
-        check,
-        "folder",
-        &[],
-        1,
-        &printed,
-        &said,
-        &line(INPUT, c::EISDIR),
-    );
-    let (printed, said) = output(|to| {
-        prepared(sheet(Stdio::null(), to), || {
-            c::close(0);
-        })
-    });
-    cut(
-        check,
-        "closed",
-        &[],
-        1,
-        &printed,
-        &said,
-        &line(INPUT, c::EBADF),
-    );
+/// The lines that the first bytes of a card of removals make, with the header.
+fn lines_of(length: usize) -> usize {
+    1 + length.saturating_sub(1) / 9
+}
 
+fn reads_that_fail(check: &mut Check) {
+    let folder = File::open("/").expect("a folder opens");
+    let seen_folder = seen("folder", &[], |to| sheet(folder, to));
+    seen_folder.is_cut(check, 1, INPUT, c::EISDIR);
+    let close: fn() = || {
+        c::close(0);
+    };
+    let closed = seen("closed", &[], |to| {
+        prepared(sheet(Stdio::null(), to), close)
+    });
+    closed.is_cut(check, 1, INPUT, c::EBADF);
     // A pipe that doesn't wait, with the beginning of a card: every length of it.
     let card = removals(3);
     for length in 0..=card.len() {
         let (reader, held) = piped(&card[..length]);
         never_wait(reader.as_raw_fd());
-        let (mut from, to) = pipe().expect("a pipe");
-        let (said, _) = ended(start(sheet(reader, to)));
+        let seen = seen("empty pipe", &card, |to| sheet(reader, to));
         drop(held);
-        let mut printed = Vec::new();
-        from.read_to_end(&mut printed).expect("the pipe is read");
-        let lines = 1 + length.saturating_sub(1) / 9;
-        cut(
-            check,
-            "empty pipe",
-            &card,
-            lines,
-            &printed,
-            &said,
-            &line(INPUT, c::EAGAIN),
-        );
+        seen.is_cut(check, lines_of(length), INPUT, c::EAGAIN);
     }
 }
 
-/// A terminal hangs up behind every number of a card's bytes: before the
-/// program starts, while it waits for more, and at any moment between.
+/// A terminal hangs up behind so many bytes: once so many lines have come.
+fn hangs_up(check: &mut Check, card: &[u8], length: usize, lines: usize) {
+    let Terminal { mut user, program } = terminal(true);
+    let (mut from, to) = pipe().expect("a pipe");
+    never_wait(from.as_raw_fd());
+    user.write_all(&card[..length]).expect("it is typed");
+    let child = start(sheet(program, to));
+    let whole = sheet_of(card);
+    let first = whole.split_inclusive('\n').take(lines).map(str::len).sum();
+    let mut printed = wait_for(&mut from, first);
+    drop(user);
+    let (said, _) = ended(child);
+    printed.extend(wait_for(&mut from, usize::MAX));
+    let what = "terminal";
+    let seen = Seen {
+        what,
+        card,
+        printed,
+        said,
+    };
+    seen.is_cut(check, lines, INPUT, c::EIO);
+}
+
+/// A terminal hangs up behind every number of a card's bytes: while the program
+/// waits for more, at some moment after its start, and before it.
 fn terminals_that_hang_up(check: &mut Check) {
     let card = removals(3);
     for length in 0..=card.len() {
-        let lines = 1 + length.saturating_sub(1) / 9;
-        for wait in [false, true] {
-            let Terminal { mut user, program } = terminal(true);
-            let (mut from, to) = pipe().expect("a pipe");
-            never_wait(from.as_raw_fd());
-            user.write_all(&card[..length]).expect("it is typed");
-            let child = start(sheet(program, to));
-            let least = if wait { lines } else { 1 };
-            let first: usize = sheet_of(&card)
-                .lines()
-                .take(least)
-                .map(|l| l.len() + 1)
-                .sum();
-            let mut printed = wait_for(&mut from, first);
-            drop(user);
-            let (said, _) = ended(child);
-            printed.extend(wait_for(&mut from, usize::MAX));
-            cut(
-                check,
-                "terminal",
-                &card,
-                least,
-                &printed,
-                &said,
-                &line(INPUT, c::EIO),
-            );
-        }
+        hangs_up(check, &card, length, lines_of(length));
+        hangs_up(check, &card, length, 1);
         let Terminal { user, program } = terminal(true);
         drop(user);
-        let (mut from, to) = pipe().expect("a pipe");
-        let (said, _) = ended(start(sheet(program, to)));
-        let mut printed = Vec::new();
-        from.read_to_end(&mut printed).expect("the pipe is read");
-        cut(
-            check,
-            "no terminal",
-            &card,
-            1,
-            &printed,
-            &said,
-            &line(INPUT, c::EIO),
-        );
+        let seen = seen("no terminal", &card, |to| sheet(program, to));
+        seen.is_cut(check, 1, INPUT, c::EIO);
     }
 }
 
 // ---- whole sheets
-
-/// What is printed is the sheet of the card, and nothing is said.
-fn whole(check: &mut Check, what: &str, card: &[u8], printed: &[u8], said: &str) {
-    let expected = sheet_of(card);
-    check.holds(printed == expected.as_bytes() && said.is_empty(), || {
-        let printed = String::from_utf8_lossy(printed);
-        format!("  {what}\n  printed {printed:?}\n  said {said:?}\n")
-    });
-}
 
 fn input_byte_by_byte(check: &mut Check) {
     for (card, pause) in [(removals(4), 2), (removals(300), 0)] {
@@ -425,17 +385,21 @@ fn input_byte_by_byte(check: &mut Check) {
         drop(feed);
         printed.extend(wait_for(&mut from, usize::MAX));
         let (said, _) = ended(child);
-        whole(check, "byte by byte", &card, &printed, &said);
+        let (what, card) = ("byte by byte", &card[..]);
+        let seen = Seen {
+            what,
+            card,
+            printed,
+            said,
+        };
+        seen.is_whole(check);
     }
     // A terminal whose user types the version byte and ends the input.
     let Terminal { mut user, program } = terminal(false);
     user.write_all(&[1, 4, 4]).expect("it is typed");
-    let (mut from, to) = pipe().expect("a pipe");
-    let (said, _) = ended(start(sheet(program, to)));
+    let typed = seen("typed", &[1], |to| sheet(program, to));
     drop(user);
-    let mut printed = Vec::new();
-    from.read_to_end(&mut printed).expect("the pipe is read");
-    whole(check, "typed", &[1], &printed, &said);
+    typed.is_whole(check);
 }
 
 /// Each record is handed over only when the lines before it have come.
@@ -472,6 +436,13 @@ fn lines_as_they_are_made(check: &mut Check) {
         drop(feed);
         next(check);
         let (said, _) = ended(child);
-        whole(check, "line by line", &card, &printed, &said);
+        let (what, card) = ("line by line", &card[..]);
+        let seen = Seen {
+            what,
+            card,
+            printed,
+            said,
+        };
+        seen.is_whole(check);
     }
 }
