@@ -15,7 +15,7 @@ same-length : tie.Need-same-length
 same-length c = search needs
 
 returns : tie.Need-returns
-returns c = (head-fewer _ _ (c .if1 .taken) (c .before .before .before .before .read-to .ensures .0), omega (arith, c .if1 .taken))
+returns c = (head-fewer _ _ (omega (arith, c .if1 .taken)) (c .before .before .before .before .read-to .ensures .0), omega (arith, c .if1 .taken))
 
 slice-reshare-prefix-body-length : tie.Need-slice-reshare-prefix-body-length
 slice-reshare-prefix-body-length c = search needs
