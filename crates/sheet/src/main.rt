@@ -2,14 +2,15 @@
 // decision, and shows that turn after turn gives the sheet (proofs/Printed.antt). Here bytes are read, turns are taken, and each line is written as soon
 // as it is made. After a read or a write that fails nothing more is printed, so the last line is missing, and standard error has a line that says why.
 ghost use mathlib.Core.Path.{_≡_};
+ghost use mathlib.Core.Bool.{false};
 ghost use Prim.Native.Nat.{_+_, _≤_, _<_};
 ghost use lib.ListN.{length, take};
 ghost use Rattle.soundness.specs.Scan.{lent};
 ghost use Rattle.sheet_text.specs.Put.{lineMost};
 ghost use Rattle.sheet_kinds.specs.Kinds.{zeroScratch};
 ghost use Rattle.sheet_card.specs.Sheet.{emptyStore};
-ghost use Rattle.sheet_card.specs.Turns.{bodyLength, limit};
-ghost use Rattle.sheet.specs.Reading.{Asked, TurnTaken};
+ghost use Rattle.sheet_card.specs.Turns.{bodyLength, limit, started};
+ghost use Rattle.sheet.specs.Reading.{Asked, VersionRead, TurnTaken};
 use sheet_card::Progress;
 
 // ---- reading
@@ -98,31 +99,44 @@ fn print(line: &[u8], end: usize) -> bool
 
 // ---- the card
 
-// The header, then the version byte and, where that is wrong, a fault's line. Yields how far the card has been read; it goes on only where every read
-// and write so far was taken.
-fn start(bytes: &mut [u8], line: &mut [u8]) -> Progress
-    requires { ⌜ (8196 ≤ length (now bytes)) × (lineMost ≤ length (now line)) ⌝ }
-    ensures { λ r. ⌜ r .records ≤ r .offset ⌝ }
+// Nothing was read, and the card doesn't go on.
+fn none_read() -> Progress
+    ensures { λ r. ⌜ r ≡ started false ⌝ }
 {
-    let unread = Progress {
+    Progress {
         records: 0,
-        offset: 0,
+        offset: 1,
         more: false,
-    };
-    let head = sheet_card::put_header(line);
-    if !print(line, head) {
-        return unread;
     }
+}
+
+// Reads the version byte and, where it is wrong, prints a fault's line. After a read or a write that failed the card doesn't go on.
+fn read_version(bytes: &mut [u8], line: &mut [u8]) -> Progress
+    requires { ⌜ (8196 ≤ length (now bytes)) × (lineMost ≤ length (now line)) ⌝ }
+    ensures { λ r. ⌜ VersionRead r (now (bytes .exit)) (now (line .entry)) (now (line .exit)) ⌝ }
+{
     let got = read_to(bytes, 0, 1);
     if got.failed {
-        return unread;
+        return none_read();
     }
     let n = got.end;
     let s = sheet_card::begin(&bytes[..n], line, 0);
     if !print(line, s.end) {
-        return unread;
+        return none_read();
     }
     s.next
+}
+
+// The header, then the version byte. Yields how far the card has been read.
+fn start(bytes: &mut [u8], line: &mut [u8]) -> Progress
+    requires { ⌜ (8196 ≤ length (now bytes)) × (lineMost ≤ length (now line)) ⌝ }
+    ensures { λ r. ⌜ r ≡ started (r .more) ⌝ }
+{
+    let head = sheet_card::put_header(line);
+    if !print(line, head) {
+        return none_read();
+    }
+    read_version(bytes, line)
 }
 
 // A turn: reads what it needs, and prints its line. After a read or a write that failed the card doesn't go on.

@@ -1,7 +1,7 @@
 -- `sheet::run` meets its contract. The invariant: the scratch is zeros, and there are no more records than bytes. The measure is what is left until the limit. Assumes nothing.
 use Rattle.sheet_text.specs.Put.{lineMost}
 use Rattle.sheet_kinds.specs.Kinds.{zeroScratch}
-use Rattle.sheet_card.proofs.Turns.{left, Next, below-limit}
+use Rattle.sheet_card.proofs.Turns.{left, Next, below-limit, started-counts}
 use Rattle.sheet_card.specs.Turns.{goesOn}
 use Rattle.sheet.proofs.Reading.{taken-next}
 use lib.ListN.{length}
@@ -26,7 +26,7 @@ start-requires : tie.Need-start-requires Inv-loop μ-loop
 start-requires c κs = search needs
 
 loop-holds : tie.Need-loop-holds Inv-loop μ-loop
-loop-holds c = (search needs, search needs, search needs, search needs, refl, refl, refl, refl, search needs, search needs)
+loop-holds c = let t = c .before .before .before .before .start in (search needs, search needs, search needs, started-counts (t .result) _ (t .ensures), refl, refl, refl, refl, search needs, search needs)
 
 goes-on-requires : tie.Need-goes-on-requires Inv-loop μ-loop
 goes-on-requires c κs = search needs

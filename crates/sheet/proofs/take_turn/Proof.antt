@@ -1,5 +1,5 @@
 -- `sheet::take_turn` meets its contract. Assumes nothing.
-use Rattle.sheet.proofs.Reading.{not-read, was-read}
+use Rattle.sheet.proofs.Reading.{not-read, was-read, kept-store, turned-store}
 use lib.Seq.{length-take-le}
 use mathlib.Core.Logic.{inl, inr}
 use mathlib.Core.Path.{sym}
@@ -19,7 +19,7 @@ same-length c = search needs
 returns : tie.Need-returns
 returns c =
     let r = c .before .before .before .before .read-record in
-    (not-read _ _ _ _ _ (r .ensures .0) _ (c .before .if1 .taken) (c .stop .ensures), search needs)
+    (record { came = r .result; asked = r .ensures .0; answered = not-read _ _ _ _ _ _ (c .before .if1 .taken) (c .stop .ensures); store = kept-store _ _ _ (c .before .if1 .taken) }, search needs)
 
 slice-reshare-prefix-turn : tie.Need-slice-reshare-prefix-turn
 slice-reshare-prefix-turn c = search needs
@@ -67,7 +67,7 @@ same-length-7 c = search needs
 returns-2 : tie.Need-returns-2
 returns-2 c =
     let t = turned (c .before .before .before) in
-    (was-read _ _ _ _ _ (read t .read-record .ensures .0) _ (going t .if1 .left) (t .turn .ensures .0) (t .turn .ensures .1 .1 .0) (inr (c .stop2 .ensures)), t .turn .ensures .1 .1 .1 .1)
+    (record { came = read t .read-record .result; asked = read t .read-record .ensures .0; answered = was-read _ _ _ _ _ _ (going t .if1 .left) (t .turn .ensures .0) (inr (c .stop2 .ensures)); store = turned-store _ _ _ _ (going t .if1 .left) (t .turn .ensures .1 .1 .0) }, t .turn .ensures .1 .1 .1 .1)
 
 same-length-8 : tie.Need-same-length-8
 same-length-8 c = search needs
@@ -90,7 +90,7 @@ same-length-13 c = search needs
 returns-3 : tie.Need-returns-3
 returns-3 c =
     let t = turned (c .before .before .before) in
-    (was-read _ _ _ _ _ (read t .read-record .ensures .0) _ (going t .if1 .left) (t .turn .ensures .0) (t .turn .ensures .1 .1 .0) (inl (t .turn .ensures .1 .1 .1 .0)), t .turn .ensures .1 .1 .1 .1)
+    (record { came = read t .read-record .result; asked = read t .read-record .ensures .0; answered = was-read _ _ _ _ _ _ (going t .if1 .left) (t .turn .ensures .0) (inl (t .turn .ensures .1 .1 .1 .0)); store = turned-store _ _ _ _ (going t .if1 .left) (t .turn .ensures .1 .1 .0) }, t .turn .ensures .1 .1 .1 .1)
 
 pub take-turn-spec : {M : Type 1} → statement M
 take-turn-spec =
