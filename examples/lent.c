@@ -1,18 +1,19 @@
-/* A store lent from C: one recording is stored, and a query finds it. Prints the words of both answers in hexadecimal. */
+/* A store lent from C: one recording is stored under set 2, and a query of that set finds it. Prints the words of both answers in hexadecimal. */
 #include <inttypes.h>
 #include <stdint.h>
 #include <stdio.h>
 
 void wang_index_insert(uint32_t *refs, size_t refs_len, uint32_t *postings, size_t postings_len,
                        uint32_t *stopped, size_t stopped_len, const uint32_t *hashes, size_t hashes_len,
-                       uint32_t rate, uint32_t limit, uint64_t answer[8]);
+                       uint32_t rate, uint32_t limit, uint32_t set, uint64_t answer[8]);
 void wang_index_query(const uint32_t *refs, size_t refs_len, const uint32_t *postings, size_t postings_len,
                       const uint32_t *stopped, size_t stopped_len, int64_t *scratch, size_t scratch_len,
                       const uint32_t *hashes, size_t hashes_len, uint32_t rate, uint32_t tolerance,
-                      uint32_t min_votes, uint32_t min_score, uint32_t min_prominence, uint64_t answer[8]);
+                      uint32_t min_votes, uint32_t min_score, uint32_t min_prominence, uint32_t set,
+                      uint64_t answer[8]);
 
 enum { R = 32, P = 1024, K = 256, VOTES = 512 };
-static uint32_t refs[4 + 4 * R], postings[3 * P], stopped[K];
+static uint32_t refs[4 + 5 * R], postings[3 * P], stopped[K];
 static int64_t scratch[6 * VOTES];
 
 static void show(const uint64_t answer[8]) {
@@ -24,10 +25,10 @@ int main(void) {
     const uint32_t rate = 0x427A0000; /* 62.5 frames a second */
     const uint32_t recording[] = {7, 4, 9, 6}, heard[] = {7, 1, 9, 3};
     uint64_t answer[8];
-    wang_index_insert(refs, 4 + 4 * R, postings, 3 * P, stopped, K, recording, 4, rate, 100, answer);
+    wang_index_insert(refs, 4 + 5 * R, postings, 3 * P, stopped, K, recording, 4, rate, 100, 2, answer);
     show(answer);
-    wang_index_query(refs, 4 + 4 * R, postings, 3 * P, stopped, K, scratch, 6 * VOTES, heard, 4, rate, 0, 2,
-                     0x3F000000, 0x40000000, answer);
+    wang_index_query(refs, 4 + 5 * R, postings, 3 * P, stopped, K, scratch, 6 * VOTES, heard, 4, rate, 0, 2,
+                     0x3F000000, 0x40000000, 2, answer);
     show(answer);
     return 0;
 }

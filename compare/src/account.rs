@@ -1,10 +1,11 @@
 //! What a call on a lent store is to answer and to leave. The reference says
 //! what an accepted call does; what it doesn't know, which stores are sound
-//! and which calls are refused, is told here, in document 01's words.
+//! and which calls are refused, is told here, in document 01's words and in
+//! those of document 02's first request, which is about sets.
 
 use crate::capi::{Answer, NAN_F32, Settings};
 use crate::harness::{answer, word32};
-use crate::store::{Index, Sizes, Store, read, write};
+use crate::store::{HEADER, Index, ROW, SET, Sizes, Store, is_asked, of_set, read, write};
 use audiofp::matching::MatchResult;
 use std::collections::BTreeSet;
 
@@ -22,11 +23,13 @@ pub enum Call {
         lengths: Vec<u32>,
         rates: Vec<u32>,
         limit: u32,
+        sets: Vec<u32>,
     },
     Insert {
         hashes: Vec<u32>,
         rate: u32,
         limit: u32,
+        set: u32,
     },
     Remove {
         id: u32,
@@ -40,6 +43,8 @@ pub struct Query {
     pub hashes: Vec<u32>,
     pub rate: u32,
     pub settings: Settings,
+    /// The set that votes, or 0 for all.
+    pub set: u32,
     /// Words of scratch, and what fills them before the call.
     pub scratch: usize,
     pub fill: u64,
@@ -84,66 +89,83 @@ pub fn refused(number: u64) -> Answer {
 }
 
 /// Whether a store of listed lengths is sound: document 01's sentence, part
-/// by part.
+/// by part, and document 02's of sets.
 pub fn sound<I: Index>(store: &Store, sizes: Sizes) -> bool {
     let [n, v, p, k] = store.header().map(|count| count as usize);
     // "n, v, p, k are within R, n, P, K"
-    if !(n <= sizes.rows && v <= n && p <= sizes.postings && k <= sizes.stopped) {
-        return false;
-    }
+    n <= sizes.rows
+        && v <= n
+        && p <= sizes.postings
+        && k <= sizes.stopped
+        && sound_rows::<I>(store)
+        && sound_postings::<I>(store)
+        && is_unused_zero::<I>(store)
+}
+
+/// The parts about rows and vacant entries.
+fn sound_rows<I: Index>(store: &Store) -> bool {
+    let [n, v, ..] = store.header().map(|count| count as usize);
     let rows: Vec<&[u32]> = store.rows().take(n).collect();
-    let postings = || store.postings.chunks_exact(I::WIDTH).take(p);
-    let stopped = &store.stopped[..k];
-    let vacant = || store.rows().take(v).map(|row| row[3]);
+    let live = || rows.iter().filter(|row| row[2] == 1);
+    let dead = || rows.iter().filter(|row| row[2] == 0);
     let is_nan = |rate: u32| f32::from_bits(rate).is_nan();
-    let is_live = |id: u32| rows.get(id as usize).is_some_and(|row| row[2] == 1);
 
     // "live words are 1 or 0"
     let live_words = rows.iter().all(|row| row[2] <= 1);
+    // "the first n rows hold v dead ids and the first v vacant entries name
+    // each once"
+    let is_dead = |id: &u32| rows[*id as usize][2] == 0;
+    let dead_ids: BTreeSet<u32> = (0..n as u32).filter(is_dead).collect();
+    let vacant: BTreeSet<u32> = store.rows().take(v).map(|row| row[3]).collect();
+    let named = dead_ids.len() == v && vacant == dead_ids;
+    // "a dead row has rate 7FC00000 (hexadecimal) and r_max 0"
+    let dead_rows = dead().all(|row| row[..2] == [NAN_F32, 0]);
+    // "a live NaN rate is stored as that word"
+    let rates = rows.iter().all(|row| !is_nan(row[0]) || row[0] == NAN_F32);
+    // "Panako r_max is 0"
+    let no_r_max = I::HAS_R_MAX || rows.iter().all(|row| row[1] == 0);
+    // "a sound store's dead rows have set 0 and its live rows 1 to 255"
+    let sets = dead().all(|row| row[SET] == 0) && live().all(|row| is_set(row[SET]));
+
+    live_words && named && dead_rows && rates && no_r_max && sets
+}
+
+/// The parts about postings and stopped keys.
+fn sound_postings<I: Index>(store: &Store) -> bool {
+    let [n, _, p, k] = store.header().map(|count| count as usize);
+    let rows: Vec<&[u32]> = store.rows().take(n).collect();
+    let postings = || store.postings.chunks_exact(I::WIDTH).take(p);
+    let stopped = &store.stopped[..k];
+    let row = |posting: &[u32]| rows.get(posting[1] as usize).copied();
+
     // "posting keys and stopped keys ascend as said"
     let ascending = postings().is_sorted_by_key(|posting| posting[0])
         && stopped.is_sorted_by(|one, next| one < next);
-    // "the first n rows hold v dead ids and the first v vacant entries name
-    // each once"
-    let dead: BTreeSet<u32> = (0..)
-        .zip(&rows)
-        .filter(|(_, row)| row[2] == 0)
-        .map(|(id, _)| id)
-        .collect();
-    let named = dead.len() == v && vacant().collect::<BTreeSet<u32>>() == dead;
-    // "a dead row has rate 7FC00000 (hexadecimal) and r_max 0"
-    let dead_rows = rows
-        .iter()
-        .filter(|row| row[2] == 0)
-        .all(|row| row[..2] == [NAN_F32, 0]);
-    // "a live NaN rate is stored as that word"
-    let rates = rows.iter().all(|row| !is_nan(row[0]) || row[0] == NAN_F32);
     // "posting ids are live"
-    let live_ids = postings().all(|posting| is_live(posting[1]));
-    // "a Wang posting's anchor is at most its row's r_max; Panako r_max is 0"
-    let largest = if I::HAS_R_MAX {
-        live_ids && postings().all(|posting| posting[2] <= rows[posting[1] as usize][1])
-    } else {
-        rows.iter().all(|row| row[1] == 0)
-    };
+    let live_ids = postings().all(|posting| row(posting).is_some_and(|row| row[2] == 1));
+    // "a Wang posting's anchor is at most its row's r_max"
+    let is_within = |posting: &[u32]| row(posting).is_some_and(|row| posting[2] <= row[1]);
+    let largest = !I::HAS_R_MAX || postings().all(is_within);
     // "no posting has a stopped key"
     let keys: BTreeSet<u32> = stopped.iter().copied().collect();
     let unstopped = postings().all(|posting| !keys.contains(&posting[0]));
-    // "every unused word is zero"
-    let unused = store.rows().skip(n).all(|row| row[..3] == [0; 3])
+
+    ascending && live_ids && largest && unstopped
+}
+
+/// "every unused word is zero"
+fn is_unused_zero<I: Index>(store: &Store) -> bool {
+    let [n, v, p, k] = store.header().map(|count| count as usize);
+    let is_zero = |row: &[u32]| row[..3] == [0; 3] && row[SET] == 0;
+    store.rows().skip(n).all(is_zero)
         && store.rows().skip(v).all(|row| row[3] == 0)
         && store.postings[I::WIDTH * p..].iter().all(|&word| word == 0)
-        && store.stopped[k..].iter().all(|&word| word == 0);
+        && store.stopped[k..].iter().all(|&word| word == 0)
+}
 
-    live_words
-        && ascending
-        && named
-        && dead_rows
-        && rates
-        && live_ids
-        && largest
-        && unstopped
-        && unused
+/// Whether a recording can be stored under this set: "1 to 255".
+fn is_set(set: u32) -> bool {
+    (1..=255).contains(&set)
 }
 
 /// A store as it is to be, with the reference's index of the same content
@@ -172,47 +194,74 @@ impl<I: Index> Account<I> {
 
     /// The answer; the store is then what the call leaves.
     pub fn call(&mut self, call: &Call) -> Answer {
-        if let Some(number) = self.refusal(call) {
-            return refused(number);
+        if let Call::Query(query) = call {
+            return self.answer_to(query);
         }
+        match (self.refusal(call), call) {
+            (Some(number), _) => refused(number),
+            (None, Call::LiveCount) => counted(self.index().live_count()),
+            _ => self.change(call),
+        }
+    }
+
+    /// The answer to a query.
+    pub fn answer_to(&self, query: &Query) -> Answer {
+        match self.query_refusal(query) {
+            Some(number) => refused(number),
+            None => found(self.best(query, &query.settings)),
+        }
+    }
+
+    /// A call that may change the store, and isn't refused but by 7.
+    fn change(&mut self, call: &Call) -> Answer {
         let sizes = self.sizes.expect("the lengths are listed");
-        let done = match call {
-            Call::Build {
-                hashes,
-                lengths,
-                rates,
-                limit,
-            } => {
-                let mut rest = &hashes[..];
-                let part = |(&length, &rate): (&u32, &u32)| {
-                    let (part, after) = rest.split_at(I::HASH * length as usize);
-                    rest = after;
-                    I::fingerprint(part, rate)
-                };
-                let refs: Vec<_> = lengths.iter().zip(rates).map(part).collect();
-                self.index = Some(I::build(&refs, *limit));
-                built()
-            }
-            Call::Insert {
-                hashes,
-                rate,
-                limit,
-            } => {
-                let fingerprint = I::fingerprint(hashes, *rate);
-                stored(self.index().insert(&fingerprint, *limit) as u32)
-            }
-            Call::Remove { id } => removed(self.index().remove(*id as usize)),
-            Call::LiveCount => return counted(self.index().live_count()),
-            Call::Query(query) => return found(self.best(query, &query.settings)),
-        };
+        let (done, sets) = self.changed(call);
         // "stopped keys after the call would exceed K": the reference says
         // how many they are. Its index is then that of the store again.
         if self.index().stopped_count() > sizes.stopped {
             *self = Self::new(std::mem::take(&mut self.store));
             return refused(7);
         }
-        self.store = write::<I>(&self.index().content(), sizes);
+        self.store = write::<I>(&self.index().content(), &sets, sizes);
         done
+    }
+
+    /// Changes the reference's index: the answer, and the sets of all ids.
+    fn changed(&mut self, call: &Call) -> (Answer, Vec<u32>) {
+        let mut kept = self.store.sets();
+        match call {
+            Call::Build {
+                hashes,
+                lengths,
+                rates,
+                limit,
+                sets,
+            } => {
+                let refs = fingerprints::<I>(hashes, lengths, rates);
+                self.index = Some(I::build(&refs, *limit));
+                (built(), sets.clone())
+            }
+            Call::Insert {
+                hashes,
+                rate,
+                limit,
+                set,
+            } => {
+                let fingerprint = I::fingerprint(hashes, *rate);
+                let id = self.index().insert(&fingerprint, *limit);
+                kept.resize(kept.len().max(id + 1), 0);
+                kept[id] = *set;
+                (stored(id as u32), kept)
+            }
+            Call::Remove { id } => {
+                let is_removed = self.index().remove(*id as usize);
+                if is_removed {
+                    kept[*id as usize] = 0;
+                }
+                (removed(is_removed), kept)
+            }
+            Call::LiveCount | Call::Query(_) => unreachable!("it changes nothing"),
+        }
     }
 
     fn index(&mut self) -> &mut I {
@@ -222,26 +271,40 @@ impl<I: Index> Account<I> {
     /// What the reference answers to the query, with these settings.
     pub fn best(&self, query: &Query, settings: &Settings) -> Option<(usize, MatchResult)> {
         let index = self.index.as_ref().expect("the store is sound");
-        best_of(index, query, settings)
+        match query.set {
+            0 => best_of(index, query, settings),
+            set => best_of(&self.index_of(set), query, settings),
+        }
     }
 
     /// Likewise, had the recording `id` been removed before.
     pub fn best_without(&self, query: &Query, id: usize) -> Option<(usize, MatchResult)> {
-        let index = self.index.as_ref().expect("the store is sound");
-        let mut rest = I::of(index.content());
+        let mut rest = self.index_of(query.set);
         assert!(rest.remove(id), "the best recording is live");
         best_of(&rest, query, &query.settings)
+    }
+
+    /// "the Rust on the same index without the other sets' postings"
+    fn index_of(&self, set: u32) -> I {
+        let content = read::<I>(&self.store);
+        I::of(of_set::<I>(content, &self.store.sets(), set))
     }
 
     /// The postings by which the hashes of a query vote, a posting for each
     /// vote.
     pub fn voters(&self, query: &Query) -> impl Iterator<Item = &[u32]> {
         let p = self.store.header()[2] as usize;
+        let set_of = |id: u32| {
+            let word = self.store.refs.get(HEADER + ROW * id as usize + SET);
+            word.copied().unwrap_or(0)
+        };
         let hashes = query.hashes.chunks_exact(I::HASH);
         hashes.flat_map(move |hash| {
             let postings = self.store.postings.chunks_exact(I::WIDTH).take(p);
             postings.filter(move |posting| {
-                posting[0] == hash[0] && I::is_vote(&query.settings, hash, posting)
+                posting[0] == hash[0]
+                    && is_asked(query.set, set_of(posting[1]))
+                    && I::is_vote(&query.settings, hash, posting)
             })
         })
     }
@@ -253,79 +316,122 @@ impl<I: Index> Account<I> {
             .is_some_and(|index| index.is_stopped(key))
     }
 
-    /// The lowest number of document 01's table that applies, but for 7.
+    /// The first refusal that applies, but for 7: document 01's table by its
+    /// numbers, and 9 "placed after 4".
     fn refusal(&self, call: &Call) -> Option<u64> {
         // "a store or scratch slice's length is none of those listed at the
         // end"
         let Some(sizes) = self.sizes else {
             return Some(1);
         };
-        // "6 words a vote (Wang), 12 (Panako), whole votes only, 0 to
-        // 1,000,000 votes"
-        if let Call::Query(Query { scratch, .. }) = call
-            && (scratch % I::VOTE != 0 || scratch / I::VOTE > VOTES)
-        {
-            return Some(1);
-        }
-        // "store unsound (not for build)"
-        if !self.is_sound() && !matches!(call, Call::Build { .. }) {
-            return Some(2);
-        }
-        // "fingerprint words no multiple of 2 (Wang) or 4 (Panako)"
-        let is_odd = |words: &[u32]| words.len() % I::HASH != 0;
         match call {
+            Call::Query(query) => self.query_refusal(query),
             Call::Build {
                 hashes,
                 lengths,
                 rates,
+                sets,
                 ..
-            } => {
-                let m = hashes.len() / I::HASH;
-                // "too many hashes (in build, in any one reference); in build,
-                // rates and lengths differ in number or lengths don't add up
-                // to the hashes"
-                let too_many = lengths.iter().any(|&length| length as usize > HASHES);
-                let sum: u128 = lengths.iter().map(|&length| u128::from(length)).sum();
-                if is_odd(hashes) || too_many || rates.len() != lengths.len() || sum != m as u128 {
-                    return Some(3);
-                }
-                // "build: more than R references"
-                if lengths.len() > sizes.rows {
-                    return Some(5);
-                }
-                // "p + m > P, m being the hashes whose key isn't stopped
-                // (build: p = 0, nothing stopped)"
-                (m > sizes.postings).then_some(6)
-            }
-            Call::Insert { hashes, .. } => {
-                if is_odd(hashes) || hashes.len() / I::HASH > HASHES {
-                    return Some(3);
-                }
-                let [n, v, p, _] = self.store.header().map(|count| count as usize);
-                // "insert: v = 0 and n = R"
-                if v == 0 && n == sizes.rows {
-                    return Some(5);
-                }
-                let index = self.index.as_ref().expect("the store is sound");
-                let keys = hashes.chunks_exact(I::HASH).map(|hash| hash[0]);
-                let m = keys.filter(|&key| !index.is_stopped(key)).count();
-                (p + m > sizes.postings).then_some(6)
-            }
+            } => build_refusal::<I>(sizes, hashes, lengths, rates, sets),
+            // "store unsound (not for build)"
+            _ if !self.is_sound() => Some(2),
+            Call::Insert { hashes, set, .. } => self.insert_refusal(sizes, hashes, *set),
             Call::Remove { .. } | Call::LiveCount => None,
-            Call::Query(query) => {
-                // "query 0 to 2,048"
-                if is_odd(&query.hashes) || query.hashes.len() / I::HASH > QUERY_HASHES {
-                    return Some(3);
-                }
-                // "query setting beyond its limit, after `normalize_config`"
-                if I::is_beyond(&query.settings) {
-                    return Some(4);
-                }
-                // "query gathers more votes than its scratch holds"
-                (self.voters(query).count() > query.scratch / I::VOTE).then_some(8)
-            }
         }
     }
+
+    /// Of an insertion into a sound store.
+    fn insert_refusal(&self, sizes: Sizes, hashes: &[u32], set: u32) -> Option<u64> {
+        if is_odd::<I>(hashes) || hashes.len() / I::HASH > HASHES {
+            return Some(3);
+        }
+        // "a set of 0 or above 255 on insert or build"
+        if !is_set(set) {
+            return Some(9);
+        }
+        let [n, v, p, _] = self.store.header().map(|count| count as usize);
+        // "insert: v = 0 and n = R"
+        if v == 0 && n == sizes.rows {
+            return Some(5);
+        }
+        let keys = hashes.chunks_exact(I::HASH).map(|hash| hash[0]);
+        let m = keys.filter(|&key| !self.is_stopped(key)).count();
+        (p + m > sizes.postings).then_some(6)
+    }
+
+    fn query_refusal(&self, query: &Query) -> Option<u64> {
+        // "6 words a vote (Wang), 12 (Panako), whole votes only, 0 to
+        // 1,000,000 votes"
+        let room = query.scratch / I::VOTE;
+        if self.sizes.is_none() || query.scratch % I::VOTE != 0 || room > VOTES {
+            return Some(1);
+        }
+        if !self.is_sound() {
+            return Some(2);
+        }
+        // "query 0 to 2,048"
+        if is_odd::<I>(&query.hashes) || query.hashes.len() / I::HASH > QUERY_HASHES {
+            return Some(3);
+        }
+        // "query setting beyond its limit, after `normalize_config`"
+        if I::is_beyond(&query.settings) {
+            return Some(4);
+        }
+        // "a set above 255 on a query"
+        if query.set > 255 {
+            return Some(9);
+        }
+        // "query gathers more votes than its scratch holds"; "only votes of
+        // that set count against its scratch"
+        (self.voters(query).count() > room).then_some(8)
+    }
+}
+
+/// "fingerprint words no multiple of 2 (Wang) or 4 (Panako)"
+fn is_odd<I: Index>(words: &[u32]) -> bool {
+    words.len() % I::HASH != 0
+}
+
+fn build_refusal<I: Index>(
+    sizes: Sizes,
+    hashes: &[u32],
+    lengths: &[u32],
+    rates: &[u32],
+    sets: &[u32],
+) -> Option<u64> {
+    let m = hashes.len() / I::HASH;
+    // "too many hashes (in build, in any one reference); in build, rates and
+    // lengths differ in number or lengths don't add up to the hashes"
+    let too_many = lengths.iter().any(|&length| length as usize > HASHES);
+    let sum: u128 = lengths.iter().map(|&length| u128::from(length)).sum();
+    // "build takes one for each reference, and a count that differs is
+    // refusal 3"
+    let is_each = rates.len() == lengths.len() && sets.len() == lengths.len();
+    if is_odd::<I>(hashes) || too_many || !is_each || sum != m as u128 {
+        return Some(3);
+    }
+    // "a set of 0 or above 255 on insert or build"
+    if !sets.iter().all(|&set| is_set(set)) {
+        return Some(9);
+    }
+    // "build: more than R references"
+    if lengths.len() > sizes.rows {
+        return Some(5);
+    }
+    // "p + m > P, m being the hashes whose key isn't stopped (build: p = 0,
+    // nothing stopped)"
+    (m > sizes.postings).then_some(6)
+}
+
+/// The recordings of a build.
+fn fingerprints<I: Index>(hashes: &[u32], lengths: &[u32], rates: &[u32]) -> Vec<I::Fingerprint> {
+    let mut rest = hashes;
+    let part = |(&length, &rate): (&u32, &u32)| {
+        let (part, after) = rest.split_at(I::HASH * length as usize);
+        rest = after;
+        I::fingerprint(part, rate)
+    };
+    lengths.iter().zip(rates).map(part).collect()
 }
 
 fn best_of<I: Index>(

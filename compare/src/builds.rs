@@ -17,8 +17,8 @@ unsafe extern "C" {
 type LiveCount =
     unsafe extern "C" fn(*const u32, usize, *const u32, usize, *const u32, usize, &mut Answer);
 
-/// The three slices, scratch, hashes, then numbers: the rate and the
-/// settings, in the order of the C function.
+/// The three slices, scratch, hashes, then numbers: the rate, the settings and
+/// the set, in the order of the C function.
 macro_rules! query_type {
     ($($number:ty),*) => {
         unsafe extern "C" fn(
@@ -28,8 +28,8 @@ macro_rules! query_type {
     };
 }
 
-type WangQuery = query_type!(u32, u32, u32, u32, u32);
-type PanakoQuery = query_type!(u32, u32, u32, u32, u32, u32, u32, u32);
+type WangQuery = query_type!(u32, u32, u32, u32, u32, u32);
+type PanakoQuery = query_type!(u32, u32, u32, u32, u32, u32, u32, u32, u32);
 
 pub struct Build {
     pub file: String,
@@ -106,6 +106,7 @@ impl Build {
         hashes: &[u32],
         rate: u32,
         settings: &Settings,
+        set: u32,
     ) -> Answer {
         let mut answer = UNANSWERED;
         macro_rules! ask {
@@ -115,7 +116,7 @@ impl Build {
                         r.as_ptr(), r.len(), p.as_ptr(), p.len(), s.as_ptr(), s.len(),
                         scratch.as_mut_ptr(), scratch.len(), hashes.as_ptr(), hashes.len(),
                         rate, $(settings.$scale,)* settings.tolerance, settings.min_votes,
-                        settings.min_score, settings.min_prominence, &mut answer,
+                        settings.min_score, settings.min_prominence, set, &mut answer,
                     )
                 }
             };

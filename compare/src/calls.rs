@@ -4,9 +4,8 @@
 use crate::account::{Call, HASHES, Query, built, counted, refused, removed, stored};
 use crate::capi::Answer;
 use crate::harness::{Check, Rng, Run};
-use crate::store::{Content, HEADER, Index, Panako, Posting, ROW, Sizes, Store, Wang, write};
+use crate::store::{HEADER, Index, Panako, ROW, Sizes, Store, Wang};
 use crate::trial::{Met, Trial};
-use std::collections::{BTreeMap, BTreeSet};
 
 pub fn run(run: &mut Run) {
     run.check("wang_index, examples", examples::<Wang>);
@@ -28,6 +27,10 @@ pub fn run(run: &mut Run) {
 
 /// The rate of the reference's extractors.
 pub const RATE: u32 = 0x427A_0000;
+
+/// Sets that recordings are stored under, and such as are refused.
+pub const SETS: [u32; 3] = [1, 2, 255];
+pub const NO_SETS: [u32; 3] = [0, 256, u32::MAX];
 
 /// The word of a rate: zeros, infinities and NaNs of either sign, with and
 /// without payload, as often as others.
@@ -98,6 +101,10 @@ pub struct Source<'a> {
     /// Times of hashes and rates to pick from; of every kind, if none.
     pub times: &'a [u32],
     pub rates: &'a [u32],
+    /// Sets that recordings are stored under.
+    pub sets: &'a [u32],
+    /// Sets that queries name; of every kind, if none.
+    pub asked: &'a [u32],
     /// The limit of every call, or one for each.
     pub limit: Option<u32>,
     /// Hashes of a call, but for those that fill the store.
@@ -112,6 +119,8 @@ impl<'a> Source<'a> {
             keys,
             times: &[],
             rates: &[],
+            sets: &SETS,
+            asked: &[],
             limit: None,
             most,
         }
@@ -132,7 +141,7 @@ impl<'a> Source<'a> {
     }
 
     /// The times of a hash; those of a Panako hash mostly ascend.
-    fn times<I: Index>(&self, rng: &mut Rng) -> Vec<u32> {
+    pub fn times<I: Index>(&self, rng: &mut Rng) -> Vec<u32> {
         let mut times: Vec<u32> = (1..I::HASH).map(|_| self.time(rng)).collect();
         if rng.below(4) > 0 {
             times.sort_unstable();
@@ -149,59 +158,42 @@ impl<'a> Source<'a> {
         hashes
     }
 
-    /// A sound store of any content, also such as no list of calls leaves.
-    pub fn store<I: Index>(&self, rng: &mut Rng) -> Store {
-        let Sizes {
-            rows,
-            postings,
-            stopped: most_stopped,
-        } = self.sizes;
-        let n = rng.below(rows as u64 + 1) as u32;
-        let live: Vec<bool> = (0..n).map(|_| rng.below(3) > 0).collect();
-        let (alive, mut vacant): (Vec<u32>, Vec<u32>) = (0..n).partition(|&id| live[id as usize]);
-        for place in (1..vacant.len()).rev() {
-            vacant.swap(place, rng.below(place as u64 + 1) as usize);
+    /// A set to store under, seldom one that is refused.
+    fn set(&self, rng: &mut Rng) -> u32 {
+        match rng.below(32) {
+            0 => rng.pick(&NO_SETS),
+            _ => rng.pick(self.sets),
         }
-        let mut row = |&live: &bool| match live {
-            true => (f32::from_bits(self.rate(rng)), self.time(rng)),
-            false => (f32::NAN, 0),
-        };
-        let (fps, mut r_max): (Vec<f32>, Vec<u32>) = live.iter().map(&mut row).unzip();
-        let mut stopped: BTreeSet<u32> = self.keys.iter().copied().collect();
-        stopped.retain(|_| rng.below(4) == 0);
-        let stopped: BTreeSet<u32> = stopped.into_iter().take(most_stopped).collect();
-        let is_free = |key: &u32| !stopped.contains(key);
-        let free: Vec<u32> = self.keys.iter().copied().filter(is_free).collect();
-        let mut map: BTreeMap<u32, Vec<I::Posting>> = BTreeMap::new();
-        if !alive.is_empty() && !free.is_empty() {
-            for _ in 0..rng.below(postings as u64 + 1) {
-                let id = rng.pick(&alive);
-                let most = r_max[id as usize];
-                let mut words = [vec![id], self.times::<I>(rng)].concat();
-                if I::HAS_R_MAX {
-                    words[1] = match rng.below(2) {
-                        0 => most,
-                        _ => words[1].min(most),
-                    };
+    }
+
+    /// Sets for so many recordings; now and then one is refused, or they are
+    /// too few or too many.
+    fn sets(&self, rng: &mut Rng, refs: usize) -> Vec<u32> {
+        let mut sets: Vec<u32> = (0..refs).map(|_| rng.pick(self.sets)).collect();
+        while rng.below(8) == 0 {
+            match rng.below(4) {
+                0 => drop(sets.pop()),
+                1 => sets.push(self.set(rng)),
+                _ if sets.is_empty() => {}
+                _ => {
+                    let place = rng.below(sets.len() as u64) as usize;
+                    sets[place] = rng.pick(&NO_SETS);
                 }
-                map.entry(rng.pick(&free))
-                    .or_default()
-                    .push(I::Posting::of(&words));
             }
         }
-        if !I::HAS_R_MAX {
-            r_max.clear();
+        sets
+    }
+
+    /// A set to ask for: all, one that may be stored, or one that isn't; seldom
+    /// one that is refused.
+    pub fn asked(&self, rng: &mut Rng) -> u32 {
+        match (self.asked, rng.below(32)) {
+            ([], 0) => rng.pick(&[256, u32::MAX]),
+            ([], 1..3) => rng.pick(&[3, 254]),
+            ([], 3..14) => 0,
+            ([], _) => rng.pick(self.sets),
+            (asked, _) => rng.pick(asked),
         }
-        let content = Content::<I> {
-            map: map.into_iter().collect(),
-            fps,
-            r_max,
-            live,
-            vacant,
-            live_count: alive.len(),
-            stopped: stopped.into_iter().collect(),
-        };
-        write::<I>(&content, self.sizes)
     }
 
     pub fn limit(&self, rng: &mut Rng) -> u32 {
@@ -247,6 +239,7 @@ impl<'a> Source<'a> {
             hashes,
             rate: self.rate(rng),
             limit: self.limit(rng),
+            set: self.set(rng),
         }
     }
 
@@ -266,24 +259,10 @@ impl<'a> Source<'a> {
         }
         let mut rates: Vec<u32> = lengths.iter().map(|_| self.rate(rng)).collect();
         if rng.below(3) == 0 {
-            let [a, b] = [(); 2].map(|()| rng.below(refs) as usize);
-            match rng.below(8) {
-                0 => hashes.push(7),
-                1 => hashes.truncate(hashes.len().saturating_sub(1)),
-                2 => lengths[a] = lengths[a].wrapping_sub(1),
-                3 => lengths[a] = rng.pick(&[8193, 1 << 31, u32::MAX]),
-                // The sum is right but for a carry beyond 32 bits.
-                4 => {
-                    let size = rng.sized(32) as u32;
-                    lengths[a] = lengths[a].wrapping_add(size);
-                    lengths[b] = lengths[b].wrapping_sub(size);
-                }
-                5 => rates.truncate(a),
-                6 => rates.push(RATE),
-                _ => lengths.push(0),
-            }
+            spoil(rng, &mut hashes, &mut lengths, &mut rates);
         }
         Call::Build {
+            sets: self.sets(rng, lengths.len()),
             hashes,
             lengths,
             rates,
@@ -310,6 +289,26 @@ impl<'a> Source<'a> {
             };
             trial.call(check, met, call);
         }
+    }
+}
+
+/// Puts a fault into what a build is given.
+fn spoil(rng: &mut Rng, hashes: &mut Vec<u32>, lengths: &mut Vec<u32>, rates: &mut Vec<u32>) {
+    let [a, b] = [(); 2].map(|()| rng.below(lengths.len() as u64) as usize);
+    match rng.below(8) {
+        0 => hashes.push(7),
+        1 => hashes.truncate(hashes.len().saturating_sub(1)),
+        2 => lengths[a] = lengths[a].wrapping_sub(1),
+        3 => lengths[a] = rng.pick(&[8193, 1 << 31, u32::MAX]),
+        // The sum is right but for a carry beyond 32 bits.
+        4 => {
+            let size = rng.sized(32) as u32;
+            lengths[a] = lengths[a].wrapping_add(size);
+            lengths[b] = lengths[b].wrapping_sub(size);
+        }
+        5 => rates.truncate(a),
+        6 => rates.push(RATE),
+        _ => lengths.push(0),
     }
 }
 
@@ -344,7 +343,7 @@ fn small_stores<I: Index>(check: &mut Check) {
         };
         source.list::<I>(check, &mut met, 60);
     }
-    met.expect(&[2, 3, 5, 6, 7]);
+    met.expect(&[2, 3, 5, 6, 7, 9]);
 }
 
 /// Keys spread in many ways over 32 bits, and many hashes of one key.
@@ -398,29 +397,41 @@ fn spread_keys<I: Index>(check: &mut Check) {
         }
         let lengths = some_lengths(rng, count, refs);
         let rates = (0..refs).map(|_| some_rate(rng)).collect();
+        let sets = (0..refs).map(|_| rng.pick(&SETS)).collect();
         let mut trial = Trial::<I>::new(noise::<I>(rng, sizes));
         let build = Call::Build {
             hashes,
             lengths,
             rates,
             limit,
+            sets,
         };
         trial.call(check, &mut met, build);
-        for _ in 0..4 {
-            let rng = &mut check.rng;
-            let id = rng.below(refs as u64) as u32;
-            trial.call(check, &mut met, Call::Remove { id });
-            let rng = &mut check.rng;
-            let count = rng.below(HASHES as u64 + 1) as usize;
-            let insert = Call::Insert {
-                hashes: some_hashes::<I>(rng, count, &keys),
-                rate: some_rate(rng),
-                limit: rng.pick(&[limit, limit, 0, 1, 50]),
-            };
-            trial.call(check, &mut met, insert);
-        }
+        (0..4).for_each(|_| stored_again(check, &mut met, &mut trial, &keys, limit));
     }
     met.expect(&[7]);
+}
+
+/// A recording goes, and another comes, by this limit or another.
+fn stored_again<I: Index>(
+    check: &mut Check,
+    met: &mut Met,
+    trial: &mut Trial<I>,
+    keys: &[u32],
+    limit: u32,
+) {
+    let refs = u64::from(trial.store().header()[0]);
+    let id = check.rng.below(refs.max(1)) as u32;
+    trial.call(check, met, Call::Remove { id });
+    let rng = &mut check.rng;
+    let count = rng.below(HASHES as u64 + 1) as usize;
+    let insert = Call::Insert {
+        hashes: some_hashes::<I>(rng, count, keys),
+        rate: some_rate(rng),
+        limit: rng.pick(&[limit, limit, 0, 1, 50]),
+        set: rng.pick(&SETS),
+    };
+    trial.call(check, met, insert);
 }
 
 /// `refs` lengths, none above 8,192, that add up to `count`.
@@ -447,8 +458,8 @@ fn some_lengths(rng: &mut Rng, count: usize, refs: usize) -> Vec<u32> {
 fn slice_lengths<I: Index>(check: &mut Check) {
     let mut met = Met::default();
     let most = Sizes::MOST;
-    let around = |length: usize| length - 1..=length + I::WIDTH;
-    let small = [0..=18, 0..=3 * I::WIDTH + 1, 0..=3];
+    let around = |length: usize| length - 1..=length + ROW.max(I::WIDTH);
+    let small = [0..=HEADER + 3 * ROW + 1, 0..=3 * I::WIDTH + 1, 0..=3];
     for refs in small[0].clone() {
         for postings in small[1].clone() {
             for stopped in small[2].clone() {
@@ -494,54 +505,73 @@ fn at_lengths<I: Index>(check: &mut Check, met: &mut Met, lengths: [usize; 3]) {
     let mut trial = Trial::<I>::new(store);
     let ways = 4 + u32::from(I::ENTRIES.query.is_some());
     for way in 0..ways {
-        let rng = &mut check.rng;
-        let odd = rng.below(2) as usize;
-        let hashes = vec![1; I::HASH + odd];
-        let (rate, limit) = (some_rate(rng), some_limit(rng));
-        let call = match way {
-            0 => Call::LiveCount,
-            4 => Call::Query(Query {
-                hashes,
-                rate,
-                settings: I::settings(&I::Config::default()),
-                scratch: rng.pick(&[0, 1, I::VOTE, 2 * I::VOTE, I::VOTE + 1]),
-                fill: rng.next(),
-            }),
-            1 => Call::Remove { id: 0 },
-            2 => Call::Insert {
-                hashes,
-                rate,
-                limit,
-            },
-            _ => Call::Build {
-                hashes,
-                lengths: vec![1],
-                rates: vec![rate],
-                limit,
-            },
-        };
+        let call = some_way::<I>(&mut check.rng, way);
         trial.call(check, met, call);
+    }
+}
+
+/// The call of that number, good or with faults.
+fn some_way<I: Index>(rng: &mut Rng, way: u32) -> Call {
+    let odd = rng.below(2) as usize;
+    let hashes = vec![1; I::HASH + odd];
+    let (rate, limit) = (some_rate(rng), some_limit(rng));
+    let set = rng.pick(&[1, 255, 0, 256]);
+    match way {
+        0 => Call::LiveCount,
+        1 => Call::Remove { id: 0 },
+        2 => Call::Insert {
+            hashes,
+            rate,
+            limit,
+            set,
+        },
+        3 => Call::Build {
+            hashes,
+            lengths: vec![1],
+            rates: vec![rate],
+            limit,
+            sets: vec![set; rng.pick(&[1, 1, 0, 2])],
+        },
+        _ => Call::Query(Query {
+            hashes,
+            rate,
+            settings: I::settings(&I::Config::default()),
+            set,
+            scratch: rng.pick(&[0, 1, I::VOTE, 2 * I::VOTE, I::VOTE + 1]),
+            fill: rng.next(),
+        }),
     }
 }
 
 // ---- the largest stores
 
-pub fn insert<I: Index>(hashes: Vec<u32>, limit: u32) -> Call {
+/// Of a recording under set 1.
+pub fn insert(hashes: Vec<u32>, limit: u32) -> Call {
+    insert_in(hashes, limit, 1)
+}
+
+pub fn insert_in(hashes: Vec<u32>, limit: u32, set: u32) -> Call {
     Call::Insert {
         hashes,
         rate: RATE,
         limit,
+        set,
     }
 }
 
-/// One recording for each of `lengths`.
-pub fn build<I: Index>(hashes: Vec<u32>, lengths: Vec<u32>, limit: u32) -> Call {
-    let rates = vec![RATE; lengths.len()];
+/// One recording for each of `lengths`, all under set 1.
+pub fn build(hashes: Vec<u32>, lengths: Vec<u32>, limit: u32) -> Call {
+    let sets = vec![1; lengths.len()];
+    build_in(hashes, lengths, limit, sets)
+}
+
+pub fn build_in(hashes: Vec<u32>, lengths: Vec<u32>, limit: u32, sets: Vec<u32>) -> Call {
     Call::Build {
+        rates: vec![RATE; lengths.len()],
         hashes,
         lengths,
-        rates,
         limit,
+        sets,
     }
 }
 
@@ -586,28 +616,23 @@ fn all_postings<I: Index>(check: &mut Check, met: &mut Met) {
     trial.expect(
         check,
         met,
-        build::<I>(hashes.clone(), lengths.clone(), u32::MAX),
+        build(hashes.clone(), lengths.clone(), u32::MAX),
         known,
     );
     let one = vec![3; I::HASH];
-    trial.expect(check, met, insert::<I>(one.clone(), 100), refused(6));
-    trial.expect(
-        check,
-        met,
-        insert::<I>(Vec::new(), 100),
-        stored(full as u32),
-    );
+    trial.expect(check, met, insert(one.clone(), 100), refused(6));
+    trial.expect(check, met, insert(Vec::new(), 100), stored(full as u32));
     trial.expect(check, met, Call::Remove { id: 5 }, removed(true));
     let again = hashes[..I::HASH * HASHES].to_vec();
     let more = [&again[..], &one[..]].concat();
-    trial.expect(check, met, insert::<I>(more, 100), refused(3));
-    trial.expect(check, met, insert::<I>(again, u32::MAX), stored(5));
-    trial.expect(check, met, insert::<I>(one.clone(), 100), refused(6));
+    trial.expect(check, met, insert(more, 100), refused(3));
+    trial.expect(check, met, insert(again, u32::MAX), stored(5));
+    trial.expect(check, met, insert(one.clone(), 100), refused(6));
     trial.expect(check, met, Call::LiveCount, counted(full + 1));
     // One hash more, as one more recording.
     lengths.push(1);
     let hashes = [&hashes[..], &one[..]].concat();
-    trial.expect(check, met, build::<I>(hashes, lengths, 2), refused(6));
+    trial.expect(check, met, build(hashes, lengths, 2), refused(6));
 }
 
 /// K keys are stopped, K + 1 are not.
@@ -617,22 +642,22 @@ fn all_stopped<I: Index>(check: &mut Check, met: &mut Met) {
     let keys = |from: usize, count: usize| hashes_of::<I>((from..from + count).map(key));
     let lengths = vec![HASHES as u32; 8];
     let mut trial = Trial::<I>::empty(sizes);
-    let all = build::<I>(keys(0, 8 * HASHES), lengths.clone(), 0);
+    let all = build(keys(0, 8 * HASHES), lengths.clone(), 0);
     trial.expect(check, met, all, built());
-    trial.expect(check, met, insert::<I>(keys(7, HASHES), 0), stored(8));
-    trial.expect(check, met, insert::<I>(keys(8 * HASHES, 1), 0), refused(7));
-    trial.expect(check, met, insert::<I>(keys(8 * HASHES, 1), 1), stored(9));
+    trial.expect(check, met, insert(keys(7, HASHES), 0), stored(8));
+    trial.expect(check, met, insert(keys(8 * HASHES, 1), 0), refused(7));
+    trial.expect(check, met, insert(keys(8 * HASHES, 1), 1), stored(9));
     let lengths = [&lengths[..], &[1]].concat();
-    let too_many = build::<I>(keys(0, 8 * HASHES + 1), lengths.clone(), 0);
+    let too_many = build(keys(0, 8 * HASHES + 1), lengths.clone(), 0);
     trial.expect(check, met, too_many, refused(7));
-    let kept = build::<I>(keys(0, 8 * HASHES + 1), lengths, 1);
+    let kept = build(keys(0, 8 * HASHES + 1), lengths, 1);
     trial.expect(check, met, kept, built());
     let mut trial = Trial::<I>::empty(sizes);
     for id in 0..8 {
         let part = keys(id as usize * HASHES, HASHES);
-        trial.expect(check, met, insert::<I>(part, 0), stored(id));
+        trial.expect(check, met, insert(part, 0), stored(id));
     }
-    trial.expect(check, met, insert::<I>(keys(8 * HASHES, 1), 0), refused(7));
+    trial.expect(check, met, insert(keys(8 * HASHES, 1), 0), refused(7));
 }
 
 /// R recordings are stored, R + 1 are not; all ids are used again.
@@ -642,11 +667,11 @@ fn all_rows<I: Index>(check: &mut Check, met: &mut Met) {
     let keys: Vec<u32> = (0..500).collect();
     let hashes = some_hashes::<I>(&mut check.rng, 2 * rows, &keys);
     let mut trial = Trial::<I>::empty(sizes);
-    let more = build::<I>(hashes.clone(), [vec![2; rows], vec![0]].concat(), 100);
+    let more = build(hashes.clone(), [vec![2; rows], vec![0]].concat(), 100);
     trial.expect(check, met, more, refused(5));
-    trial.expect(check, met, build::<I>(hashes, vec![2; rows], 100), built());
+    trial.expect(check, met, build(hashes, vec![2; rows], 100), built());
     let two = hashes_of::<I>([1, 501]);
-    trial.expect(check, met, insert::<I>(two.clone(), 100), refused(5));
+    trial.expect(check, met, insert(two.clone(), 100), refused(5));
     let step = 1 + 2 * check.rng.below(rows as u64 / 2) as usize;
     let ids: Vec<u32> = (0..rows).map(|i| (i * step % rows) as u32).collect();
     let turns = check.times(300).end.min(rows as u64) as usize;
@@ -655,9 +680,9 @@ fn all_rows<I: Index>(check: &mut Check, met: &mut Met) {
         trial.expect(check, met, Call::Remove { id }, removed(false));
     }
     for &id in ids[..turns].iter().rev() {
-        trial.expect(check, met, insert::<I>(two.clone(), u32::MAX), stored(id));
+        trial.expect(check, met, insert(two.clone(), u32::MAX), stored(id));
     }
-    trial.expect(check, met, insert::<I>(two, 100), refused(5));
+    trial.expect(check, met, insert(two, 100), refused(5));
 }
 
 /// Lengths whose sum is right but for a carry beyond 32 bits.
@@ -668,17 +693,12 @@ fn many_lengths<I: Index>(check: &mut Check, met: &mut Met) {
     trial.expect(
         check,
         met,
-        build::<I>(Vec::new(), lengths.clone(), 1),
+        build(Vec::new(), lengths.clone(), 1),
         refused(3),
     );
     lengths.push(3);
     let hashes = hashes_of::<I>([1, 2, 3]);
-    trial.expect(
-        check,
-        met,
-        build::<I>(hashes.clone(), lengths, 1),
-        refused(3),
-    );
+    trial.expect(check, met, build(hashes.clone(), lengths, 1), refused(3));
     for lengths in [
         vec![u32::MAX, 4],
         vec![4, u32::MAX],
@@ -687,16 +707,11 @@ fn many_lengths<I: Index>(check: &mut Check, met: &mut Met) {
         vec![u32::MAX],
         vec![3, u32::MAX, 1],
     ] {
-        trial.expect(
-            check,
-            met,
-            build::<I>(hashes.clone(), lengths, 1),
-            refused(3),
-        );
+        trial.expect(check, met, build(hashes.clone(), lengths, 1), refused(3));
     }
-    let none = build::<I>(Vec::new(), vec![0; many], 1);
+    let none = build(Vec::new(), vec![0; many], 1);
     trial.expect(check, met, none, refused(5));
-    trial.expect(check, met, build::<I>(hashes, vec![3], 1), built());
+    trial.expect(check, met, build(hashes, vec![3], 1), built());
 }
 
 // ---- examples
@@ -710,135 +725,150 @@ fn examples<I: Index>(check: &mut Check) {
     // "ids 0, 1, 2; remove 0, then 2; inserts get 2, 0, 3"
     let mut trial = Trial::<I>::empty(Sizes::new(4, 8, 4));
     for id in [0, 1, 2] {
-        trial.expect(check, met, insert::<I>(one(id), 100), stored(id));
+        trial.expect(check, met, insert(one(id), 100), stored(id));
     }
     for id in [0, 2] {
         trial.expect(check, met, Call::Remove { id }, removed(true));
     }
     trial.expect(check, met, Call::LiveCount, counted(1));
     for id in [2, 0, 3] {
-        trial.expect(check, met, insert::<I>(one(id), 100), stored(id));
+        trial.expect(check, met, insert(one(id), 100), stored(id));
     }
     trial.expect(check, met, Call::LiveCount, counted(4));
-    trial.expect(check, met, insert::<I>(one(9), 100), refused(5));
+    trial.expect(check, met, insert(one(9), 100), refused(5));
 
     // "limit 2: two postings stay, a third stops the key"
     let mut trial = Trial::<I>::empty(Sizes::new(4, 8, 4));
     for (id, postings, stopped) in [(0, 1, 0), (1, 2, 0), (2, 0, 1), (3, 0, 1)] {
-        trial.expect(check, met, insert::<I>(one(7), 2), stored(id));
+        trial.expect(check, met, insert(one(7), 2), stored(id));
         let known = [id + 1, 0, postings, stopped];
         check.holds(counts(&trial) == known, || String::from("  limit 2\n"));
     }
     for (count, known) in [(2, [1, 0, 2, 0]), (3, [1, 0, 0, 1])] {
         let hashes = hashes_of::<I>(vec![7; count as usize]);
-        trial.expect(check, met, build::<I>(hashes, vec![count], 2), built());
+        trial.expect(check, met, build(hashes, vec![count], 2), built());
         check.holds(counts(&trial) == known, || String::from("  limit 2\n"));
     }
 
     // "limit 0: one stops it"
     let mut trial = Trial::<I>::empty(Sizes::new(4, 8, 4));
-    trial.expect(check, met, insert::<I>(one(7), 0), stored(0));
+    trial.expect(check, met, insert(one(7), 0), stored(0));
     check.holds(counts(&trial) == [1, 0, 0, 1], || {
         String::from("  limit 0\n")
     });
-    trial.expect(check, met, build::<I>(one(7), vec![1], 0), built());
+    trial.expect(check, met, build(one(7), vec![1], 0), built());
     check.holds(counts(&trial) == [1, 0, 0, 1], || {
         String::from("  limit 0\n")
     });
 
     // "p + m = P is stored; P + 1 is refused 6"
     let mut trial = Trial::<I>::empty(Sizes::new(4, 8, 4));
-    trial.expect(
-        check,
-        met,
-        insert::<I>(hashes_of::<I>(0..5), 100),
-        stored(0),
-    );
-    trial.expect(
-        check,
-        met,
-        insert::<I>(hashes_of::<I>(0..4), 100),
-        refused(6),
-    );
-    trial.expect(
-        check,
-        met,
-        insert::<I>(hashes_of::<I>(0..3), 100),
-        stored(1),
-    );
-    trial.expect(check, met, insert::<I>(one(0), 100), refused(6));
+    trial.expect(check, met, insert(hashes_of::<I>(0..5), 100), stored(0));
+    trial.expect(check, met, insert(hashes_of::<I>(0..4), 100), refused(6));
+    trial.expect(check, met, insert(hashes_of::<I>(0..3), 100), stored(1));
+    trial.expect(check, met, insert(one(0), 100), refused(6));
     let [eight, nine] = [8, 9].map(|count| hashes_of::<I>(0..count));
-    trial.expect(check, met, build::<I>(nine, vec![9], 0), refused(6));
-    trial.expect(check, met, build::<I>(eight, vec![8], 1), built());
+    trial.expect(check, met, build(nine, vec![9], 0), refused(6));
+    trial.expect(check, met, build(eight, vec![8], 1), built());
 
     // "8,192 hashes stored; 8,193 refused 3"
     let most = HASHES as u32;
     let mut trial = Trial::<I>::empty(Sizes::new(4, 20_000, 4));
     let [full, more] = [most, most + 1].map(|count| hashes_of::<I>(0..count));
-    trial.expect(check, met, insert::<I>(more.clone(), 100), refused(3));
-    trial.expect(check, met, insert::<I>(full.clone(), 100), stored(0));
-    trial.expect(check, met, insert::<I>(full.clone(), 100), stored(1));
+    trial.expect(check, met, insert(more.clone(), 100), refused(3));
+    trial.expect(check, met, insert(full.clone(), 100), stored(0));
+    trial.expect(check, met, insert(full.clone(), 100), stored(1));
     trial.expect(
         check,
         met,
-        build::<I>(more.clone(), vec![most + 1], 100),
+        build(more.clone(), vec![most + 1], 100),
         refused(3),
     );
-    trial.expect(check, met, build::<I>(more, vec![1, most], 100), built());
-    trial.expect(check, met, build::<I>(full, vec![most], 100), built());
+    trial.expect(check, met, build(more, vec![1, most], 100), built());
+    trial.expect(check, met, build(full, vec![most], 100), built());
 }
 
-/// Faults of every choice in one call: the lowest number is returned.
-fn order_of_refusals<I: Index>(check: &mut Check) {
-    let met = &mut Met::default();
-    let sizes = Sizes::new(2, 4, 1);
-    for faults in 0..1 << 8 {
-        let is = |number: u32| faults >> number & 1 == 1;
-        let known = |numbers: &[u32], answer: Answer| {
-            let lowest = numbers.iter().find(|&&number| is(number));
-            lowest.map_or(answer, |&number| refused(number.into()))
-        };
-        let hash = |i: u32| hashes_of::<I>([i]);
-        // A row, or all; four postings or none; a stopped key or none.
-        let rows = 1 + u32::from(is(5));
-        let (rates, lengths) = ([RATE, RATE], [4 * u32::from(is(6)), 0]);
+/// Faults of a call, a bit each by its number; 8 is a wrong number of sets,
+/// which is refused with 3.
+#[derive(Clone, Copy)]
+struct Faults(u32);
+
+impl Faults {
+    fn is(self, number: u32) -> bool {
+        self.0 >> number & 1 == 1
+    }
+
+    /// The number of the first of these that is there, or the answer.
+    fn first(self, numbers: &[u32], answer: Answer) -> Answer {
+        let first = numbers.iter().find(|&&number| self.is(number));
+        first.map_or(answer, |&number| refused(number.into()))
+    }
+
+    fn set(self) -> u32 {
+        if self.is(9) { 256 } else { 255 }
+    }
+
+    /// A row, or all; four postings or none; a stopped key or none.
+    fn store<I: Index>(self, check: &mut Check, met: &mut Met) -> Store {
+        let rows = 1 + usize::from(self.is(5));
+        let lengths = [4 * u32::from(self.is(6)), 0];
         let hashes = hashes_of::<I>(vec![50; lengths[0] as usize]);
-        let mut start = Trial::<I>::empty(sizes);
-        let first = Call::Build {
-            hashes,
-            lengths: lengths[..rows as usize].to_vec(),
-            rates: rates[..rows as usize].to_vec(),
-            limit: 4,
-        };
+        let mut start = Trial::<I>::empty(Sizes::new(2, 4, 1));
+        let first = build(hashes, lengths[..rows].to_vec(), 4);
         start.expect(check, met, first, built());
         let mut store = start.store().clone();
-        if is(7) {
+        if self.is(7) {
             (store.refs[3], store.stopped[0]) = (1, 99);
         }
-        if is(2) {
+        if self.is(2) {
             // An unused vacant entry.
             store.refs[HEADER + ROW + 3] = 1;
         }
-        if is(1) {
+        if self.is(1) {
             store.refs.push(0);
         }
-        let odd = vec![0; is(3).into()];
-        let call = insert::<I>([hash(60), odd.clone()].concat(), 0);
-        let answer = known(&[1, 2, 3, 5, 6, 7], stored(1));
-        Trial::<I>::new(store.clone()).expect(check, met, call, answer);
-        let answer = known(&[1, 2], removed(true));
-        Trial::<I>::new(store.clone()).expect(check, met, Call::Remove { id: 0 }, answer);
-        let answer = known(&[1, 2], counted(rows as usize));
-        Trial::<I>::new(store.clone()).expect(check, met, Call::LiveCount, answer);
-
-        // Three references or one, five hashes or two, of two keys or one.
-        let hashes = 2 + 3 * u32::from(is(6));
-        let keys = (0..hashes).map(|i| 70 + i * u32::from(is(7)) % 2);
-        let mut lengths = vec![0; 1 + 2 * usize::from(is(5))];
-        lengths[0] = hashes;
-        let call = build::<I>([hashes_of::<I>(keys), odd].concat(), lengths, 0);
-        let answer = known(&[1, 3, 5, 6, 7], built());
-        Trial::<I>::new(store).expect(check, met, call, answer);
+        store
     }
-    met.expect(&[1, 2, 3, 5, 6, 7]);
+
+    /// An insertion of one hash.
+    fn insert<I: Index>(self) -> Call {
+        let hashes = [hashes_of::<I>([60]), vec![0; self.is(3).into()]].concat();
+        insert_in(hashes, 0, self.set())
+    }
+
+    /// Three references or one, five hashes or two, of two keys or one.
+    fn build<I: Index>(self) -> Call {
+        let count = 2 + 3 * u32::from(self.is(6));
+        let keys = (0..count).map(|i| 70 + i * u32::from(self.is(7)) % 2);
+        let refs = 1 + 2 * usize::from(self.is(5));
+        let mut lengths = vec![0; refs];
+        lengths[0] = count;
+        let hashes = [hashes_of::<I>(keys), vec![0; self.is(3).into()]].concat();
+        let sets = vec![self.set(); refs + usize::from(self.is(8))];
+        build_in(hashes, lengths, 0, sets)
+    }
+}
+
+/// Faults of every choice in one call: the first number is returned.
+fn order_of_refusals<I: Index>(check: &mut Check) {
+    let met = &mut Met::default();
+    for faults in (0..1 << 10).map(Faults) {
+        let store = faults.store::<I>(check, met);
+        let rows = 1 + usize::from(faults.is(5));
+        let calls = [
+            (faults.insert::<I>(), &[1, 2, 3, 9, 5, 6, 7][..], stored(1)),
+            (Call::Remove { id: 0 }, &[1, 2], removed(true)),
+            (Call::LiveCount, &[1, 2], counted(rows)),
+        ];
+        for (call, numbers, answer) in calls {
+            let known = faults.first(numbers, answer);
+            Trial::<I>::new(store.clone()).expect(check, met, call, known);
+        }
+        let known = match faults.is(8) && !faults.is(1) {
+            true => refused(3),
+            false => faults.first(&[1, 3, 9, 5, 6, 7], built()),
+        };
+        Trial::<I>::new(store).expect(check, met, faults.build::<I>(), known);
+    }
+    met.expect(&[1, 2, 3, 5, 6, 7, 9]);
 }

@@ -140,16 +140,16 @@ pub struct Settings {
     pub min_prominence: u32,
 }
 
-/// Store, scratch, hashes, rate, settings.
-pub type Query = fn([&[u32]; 3], &mut [i64], &[u32], u32, &Settings) -> Answer;
+/// Store, scratch, hashes, rate, settings, set.
+pub type Query = fn([&[u32]; 3], &mut [i64], &[u32], u32, &Settings, u32) -> Answer;
 
 /// The calls of one index on a lent store.
 #[derive(Clone, Copy)]
 pub struct Entries {
-    /// Hashes, lengths, rates, limit.
-    pub build: fn(Lent<'_>, &[u32], &[u32], &[u32], u32) -> Answer,
-    /// Hashes, rate, limit.
-    pub insert: fn(Lent<'_>, &[u32], u32, u32) -> Answer,
+    /// Hashes, lengths, rates, limit, sets.
+    pub build: fn(Lent<'_>, &[u32], &[u32], &[u32], u32, &[u32]) -> Answer,
+    /// Hashes, rate, limit, set.
+    pub insert: fn(Lent<'_>, &[u32], u32, u32, u32) -> Answer,
     pub remove: fn(Lent<'_>, u32) -> Answer,
     pub live_count: fn([&[u32]; 3]) -> Answer,
     /// None where the library has no such function yet.
@@ -174,6 +174,8 @@ macro_rules! entries {
                     rates: *const u32,
                     rates_len: usize,
                     limit: u32,
+                    sets: *const u32,
+                    sets_len: usize,
                     answer: &mut Answer,
                 );
                 fn $insert(
@@ -187,6 +189,7 @@ macro_rules! entries {
                     hashes_len: usize,
                     rate: u32,
                     limit: u32,
+                    set: u32,
                     answer: &mut Answer,
                 );
                 fn $remove(
@@ -210,7 +213,7 @@ macro_rules! entries {
                 );
             }
             Entries {
-                build: |[r, p, s], hashes, lengths, rates, limit| {
+                build: |[r, p, s], hashes, lengths, rates, limit, sets| {
                     let (hash_at, length_at, rate_at) =
                         (hashes.as_ptr(), lengths.as_ptr(), rates.as_ptr());
                     let (m, l, n) = (hashes.len(), lengths.len(), rates.len());
@@ -231,11 +234,13 @@ macro_rules! entries {
                             rate_at,
                             n,
                             limit,
+                            sets.as_ptr(),
+                            sets.len(),
                             answer,
                         );
                     })
                 },
-                insert: |[r, p, s], hashes, rate, limit| {
+                insert: |[r, p, s], hashes, rate, limit, set| {
                     answered(|answer| unsafe {
                         let (refs, postings, stopped) =
                             (r.as_mut_ptr(), p.as_mut_ptr(), s.as_mut_ptr());
@@ -251,6 +256,7 @@ macro_rules! entries {
                             m,
                             rate,
                             limit,
+                            set,
                             answer,
                         );
                     })
@@ -304,10 +310,11 @@ macro_rules! query_of {
                 min_votes: u32,
                 min_score: u32,
                 min_prominence: u32,
+                set: u32,
                 answer: &mut Answer,
             );
         }
-        let query: Query = |[r, p, s], scratch, hashes, rate, settings| {
+        let query: Query = |[r, p, s], scratch, hashes, rate, settings, set| {
             answered(|answer| unsafe {
                 $query(
                     r.as_ptr(),
@@ -326,6 +333,7 @@ macro_rules! query_of {
                     settings.min_votes,
                     settings.min_score,
                     settings.min_prominence,
+                    set,
                     answer,
                 );
             })

@@ -2,10 +2,10 @@
 //! the account finds them unsound.
 
 use crate::account::{Call, Query};
-use crate::calls::{RATE, Source, some_hashes, some_store};
+use crate::calls::{RATE, SETS, Source, some_hashes, some_store};
 use crate::harness::{Check, Rng, Run};
 use crate::queries::OPEN;
-use crate::store::{HEADER, Index, Panako, ROW, Sizes, Store, Wang};
+use crate::store::{HEADER, Index, Panako, ROW, SET, Sizes, Store, Wang};
 use crate::trial::{Met, Trial};
 
 pub fn run(run: &mut Run) {
@@ -48,6 +48,7 @@ impl Seen {
             hashes: source.hashes::<I>(rng, count),
             rate: RATE,
             settings: OPEN,
+            set: rng.pick(&[0, 0, 0, 0, 1, 2, 255, 256]),
             scratch: I::VOTE * rng.pick(&[0, 2, 8, 8]),
             fill: rng.next(),
         };
@@ -79,6 +80,7 @@ fn calls_on<I: Index>(check: &mut Check, seen: &mut Seen, store: &Store) {
     let hashes = some_hashes::<I>(rng, count, &KEYS);
     let id = rng.below(store.rows().len() as u64) as u32;
     let (rate, limit) = (RATE, rng.pick(&[0, 1, 2, 100]));
+    let set = rng.pick(&SETS);
     let calls = [
         Call::LiveCount,
         Call::Remove { id },
@@ -86,6 +88,7 @@ fn calls_on<I: Index>(check: &mut Check, seen: &mut Seen, store: &Store) {
             hashes: hashes.clone(),
             rate,
             limit,
+            set,
         },
         // Overwrites any content.
         Call::Build {
@@ -93,6 +96,7 @@ fn calls_on<I: Index>(check: &mut Check, seen: &mut Seen, store: &Store) {
             lengths: vec![count as u32],
             rates: vec![rate],
             limit,
+            sets: vec![set],
         },
     ];
     for call in calls {
@@ -106,37 +110,48 @@ fn tiny_stores<I: Index>(check: &mut Check) {
     const NAN: u32 = 0x7FC0_0000;
     let seen = &mut Seen::default();
     let any: &[u32] = &[0, 1, NAN];
-    every_store::<I>(check, seen, 1, [any, &[0, 1, NAN, RATE], any]);
-    every_store::<I>(check, seen, 2, [&[0, 1, 2], &[0, NAN], &[0, 1]]);
+    let sets = [0, 1, 255, 256];
+    every_store::<I>(check, seen, 1, [any, &[0, 1, NAN, RATE], any, &sets]);
+    every_store::<I>(check, seen, 2, [&[0, 1, 2], &[0, NAN], &[0, 1], &[0]]);
     seen.end::<I>(check);
 }
 
-/// Every store of `size` rows, postings and stopped keys with the header, the
-/// rates and other words of these lists.
-fn every_store<I: Index>(check: &mut Check, seen: &mut Seen, size: usize, lists: [&[u32]; 3]) {
-    let [counts, rates, others] = lists;
-    let mut store = Store::zeroed::<I>(Sizes::new(size, size, size));
-    let mut places: Vec<&[u32]> = Vec::new();
-    for place in 0..store.refs.len() {
-        places.push(match place.checked_sub(HEADER) {
-            None => counts,
-            Some(word) if word % ROW == 0 => rates,
-            Some(_) => others,
-        });
-    }
+/// What each word of a store of `size` rows, postings and stopped keys may be:
+/// the header, the rates, other words and the sets are of these lists.
+fn places<'a, I: Index>(store: &Store, size: usize, lists: [&'a [u32]; 4]) -> Vec<&'a [u32]> {
+    let [counts, rates, others, sets] = lists;
+    let refs = (0..store.refs.len()).map(|place| match place.checked_sub(HEADER) {
+        None => counts,
+        Some(word) if word % ROW == 0 => rates,
+        Some(word) if word % ROW == SET => sets,
+        Some(_) => others,
+    });
     // Of a posting the times after the anchor matter to queries alone.
     let posting = (0..I::WIDTH).map(|word| match word {
         0..=2 => others,
         4 if size == 1 => &[0, 1],
         _ => &[0],
     });
-    places.extend(posting.cycle().take(store.postings.len()));
-    places.resize(places.len() + size, others);
+    let postings = posting.cycle().take(store.postings.len());
+    let stopped = std::iter::repeat_n(others, size);
+    refs.chain(postings).chain(stopped).collect()
+}
+
+/// Every store of that size and those words; where the only set is 0, each is
+/// as its row's live word.
+fn every_store<I: Index>(check: &mut Check, seen: &mut Seen, size: usize, lists: [&[u32]; 4]) {
+    let [_, _, others, sets] = lists;
+    let mut store = Store::zeroed::<I>(Sizes::new(size, size, size));
+    let places = places::<I>(&store, size, lists);
     let mut digits = vec![0; places.len()];
     loop {
         let words = digits.iter().zip(&places).map(|(&digit, list)| list[digit]);
         let all = store.lend().into_iter().flatten();
         all.zip(words).for_each(|(word, value)| *word = value);
+        if sets == [0] {
+            let rows = store.refs[HEADER..].chunks_exact_mut(ROW);
+            rows.for_each(|row| row[SET] = row[2]);
+        }
         let mut trial = Trial::<I>::new(store.clone());
         trial.call(check, &mut seen.others, Call::LiveCount);
         seen.query(check, &mut trial, [others, &[0, 1]]);
@@ -173,6 +188,8 @@ pub fn values<I: Index>(store: &Store) -> Vec<u32> {
         0,
         1,
         2,
+        255,
+        256,
         0x7F80_0000,
         0x7F80_0001,
         0x7FBF_FFFF,

@@ -6,7 +6,8 @@ use crate::builds::Build;
 use crate::calls::RATE;
 use crate::capi::Answer;
 use crate::harness::Rng;
-use crate::store::{Content, Index, Panako, Sizes, Store, Wang, write};
+use crate::store::{Content, Index, Panako, Sizes, Store, Wang, is_asked, of_set, write};
+use audiofp::matching::MatchResult;
 use std::hint::black_box;
 use std::time::Duration;
 
@@ -19,6 +20,13 @@ const QUERY_TURNS: usize = 501;
 
 /// The same, where a candidate has many votes.
 const SPREAD_TURNS: usize = 21;
+
+/// Recordings are stored under so many sets in turn.
+const SETS: u32 = 10;
+
+fn set_of(id: usize) -> u32 {
+    1 + id as u32 % SETS
+}
 
 /// `lists` recordings of `hashes` hashes with keys of `bits` bits.
 #[derive(Clone, Copy)]
@@ -230,6 +238,7 @@ fn measure<I: Index>(card: Card) -> Times {
     let all = lists.concat();
     let lengths = vec![card.hashes as u32; card.lists];
     let rates = vec![RATE; card.lists];
+    let sets: Vec<u32> = (0..card.lists).map(set_of).collect();
     let entries = I::ENTRIES;
     let mut store = Store::zeroed::<I>(card.sizes);
     let mut index = I::build(&[], LIMIT);
@@ -243,14 +252,14 @@ fn measure<I: Index>(card: Card) -> Times {
     };
     for _ in 0..card.turns.div_ceil(5) {
         let answer = timed(&mut times.build[0], 1, || {
-            (entries.build)(store.lend(), &all, &lengths, &rates, LIMIT)
+            (entries.build)(store.lend(), &all, &lengths, &rates, LIMIT, &sets)
         });
         assert_eq!(answer, built());
         index = timed(&mut times.build[1], 1, || I::build(&fingerprints, LIMIT));
     }
     let same = |store: &Store, index: &I| {
         assert!(
-            *store == write::<I>(&index.content(), card.sizes),
+            *store == write::<I>(&index.content(), &sets, card.sizes),
             "both sides hold the same"
         );
     };
@@ -287,7 +296,7 @@ fn measure<I: Index>(card: Card) -> Times {
         });
         timed(&mut times.insert[0], card.batch, || {
             for &id in ids.iter().rev() {
-                let answer = (entries.insert)(store.lend(), &lists[id], RATE, LIMIT);
+                let answer = (entries.insert)(store.lend(), &lists[id], RATE, LIMIT, sets[id]);
                 assert_eq!(answer, stored(id as u32));
             }
         });
@@ -309,6 +318,8 @@ struct Row {
     card: Card,
     hashes: usize,
     room: Room,
+    /// The set asked, or 0 for all.
+    set: u32,
 }
 
 /// What is done with each row of the table.
@@ -324,14 +335,22 @@ trait Measuring {
 
     /// Parts of the card's lists as they are heard, each turn others.
     fn heard<I: Index>(&mut self, name: &str, row: Row) {
-        let Row { card, hashes, room } = row;
+        let Row {
+            card,
+            hashes,
+            room,
+            set,
+        } = row;
         let rng = &mut Rng(1);
         let lists: Vec<Vec<u32>> = (0..card.lists).map(|_| list::<I>(rng, card)).collect();
-        let sides = Sides::<I>::of(&lists, card.sizes);
-        let title = query_title(name, &card.title(), hashes, room);
+        let sides = Sides::<I>::of(&lists, card.sizes, set);
+        let ids: Vec<usize> = (0..card.lists)
+            .filter(|&id| is_asked(set, set_of(id)))
+            .collect();
+        let title = query_title(name, &card.title(), hashes, room, set);
         self.row(title, QUERY_TURNS, sides, |sides| {
             let ask = |_| {
-                let id = rng.below(card.lists as u64) as usize;
+                let id = rng.pick(&ids);
                 sides.asked(heard::<I>(rng, card, &lists[id], hashes), room)
             };
             (0..card.batch).map(ask).collect()
@@ -343,8 +362,8 @@ trait Measuring {
     /// times in the query.
     fn spread<I: Index>(&mut self, name: &str, hashes: usize) {
         let list = under_one_key::<I>(LIMIT as usize, 1 << 12);
-        let sides = Sides::<I>::of(&[list], SCHOOL.sizes);
-        let title = query_title(name, "1 × 100, one key", hashes, Room::Met);
+        let sides = Sides::<I>::of(&[list], SCHOOL.sizes, 0);
+        let title = query_title(name, "1 × 100, one key", hashes, Room::Met, 0);
         self.row(title, SPREAD_TURNS, sides, |sides| {
             vec![sides.asked(under_one_key::<I>(hashes, 1), Room::Met)]
         });
@@ -352,24 +371,20 @@ trait Measuring {
 }
 
 /// The words of a row that say what is asked.
-fn query_title(name: &str, lists: &str, hashes: usize, room: Room) -> String {
-    format!("`{name}::query` | {lists} | {hashes} | {}", room.name())
+fn query_title(name: &str, lists: &str, hashes: usize, room: Room, set: u32) -> String {
+    let sets = match set {
+        0 => String::new(),
+        _ => format!(", one set of {SETS}"),
+    };
+    format!(
+        "`{name}::query`{sets} | {lists} | {hashes} | {}",
+        room.name()
+    )
 }
 
 fn measure_all(only: Option<&str>, measuring: &mut impl Measuring) {
     let asked = |name: &str| only.is_none_or(|only| name.contains(only));
-    for (card, hashes, room) in [
-        (SCHOOL, 30, Room::Met),
-        (SCHOOL, 30, Room::Votes(256)),
-        (SCHOOL, 30, Room::Votes(512)),
-        (CLINIC, 100, Room::Met),
-        (CLINIC, 300, Room::Met),
-        (LARGE[0], 300, Room::Met),
-        (LARGE[0], 2048, Room::Met),
-        (LARGE[1], 300, Room::Met),
-        (LARGE[1], 2048, Room::Met),
-    ] {
-        let row = Row { card, hashes, room };
+    for row in own_speed() {
         if asked("Wang query") {
             measuring.heard::<Wang>("WangIndex", row);
         }
@@ -388,6 +403,31 @@ fn measure_all(only: Option<&str>, measuring: &mut impl Measuring) {
             measuring.spread::<Panako>("PanakoIndex", hashes);
         }
     }
+}
+
+/// Queries at the recordings' own speed; at the depots for all sets, and for
+/// one.
+fn own_speed() -> impl Iterator<Item = Row> {
+    let row = |(card, hashes, room)| Row {
+        card,
+        hashes,
+        room,
+        set: 0,
+    };
+    let small = [
+        (SCHOOL, 30, Room::Met),
+        (SCHOOL, 30, Room::Votes(256)),
+        (SCHOOL, 30, Room::Votes(512)),
+        (CLINIC, 100, Room::Met),
+        (CLINIC, 300, Room::Met),
+    ];
+    let large = LARGE.into_iter().flat_map(move |card| {
+        let rows = [300, 2048].map(|hashes| (card, hashes, Room::Met));
+        rows.map(row)
+            .into_iter()
+            .flat_map(|row| [row, Row { set: 1, ..row }])
+    });
+    small.map(row).into_iter().chain(large)
 }
 
 /// Panako's queries at other speeds. Spans of 20 frames are heard as one length
@@ -416,6 +456,7 @@ fn speeds() -> impl Iterator<Item = Row> {
         },
         hashes,
         room,
+        set: 0,
     };
     let small = school.map(|speed| row(SCHOOL, 30, Room::Votes(256), speed));
     let longer = clinic.map(|speed| row(CLINIC, 300, Room::Met, speed));
@@ -488,28 +529,55 @@ struct Asked<I: Index> {
     scratch: usize,
 }
 
-/// Both sides with the same content.
+/// What the reference's query answers.
+type Found = Option<(usize, MatchResult)>;
+
+/// Both sides with the same content, and what of it is of the set asked.
 struct Sides<I: Index> {
     index: I,
-    content: Content<I>,
     store: Store,
+    set: u32,
+    of_set: Content<I>,
+    /// The index of that content, where it isn't all.
+    part: Option<I>,
 }
 
 impl<I: Index> Sides<I> {
-    fn of(lists: &[Vec<u32>], sizes: Sizes) -> Self {
+    fn of(lists: &[Vec<u32>], sizes: Sizes, set: u32) -> Self {
         let fingerprint = |list: &Vec<u32>| I::fingerprint(list, RATE);
         let index = I::build(&lists.iter().map(fingerprint).collect::<Vec<_>>(), LIMIT);
-        let content = index.content();
-        let store = write::<I>(&content, sizes);
+        let sets: Vec<u32> = (0..lists.len()).map(set_of).collect();
+        let store = write::<I>(&index.content(), &sets, sizes);
+        let of_set = of_set::<I>(index.content(), &sets, set);
+        let part = (set > 0).then(|| I::of(of_set.clone()));
         Self {
             index,
-            content,
             store,
+            set,
+            of_set,
+            part,
         }
     }
 
+    /// What is to be answered, where the reference's index answers `whole`.
+    fn answers(
+        &self,
+        asked: &[Asked<I>],
+        config: &I::Config,
+        whole: Vec<Found>,
+    ) -> impl Iterator<Item = Answer> {
+        let part = self.part.as_ref();
+        let of_part = |part: &I| {
+            asked
+                .iter()
+                .map(|asked| part.query(&asked.fingerprint, config))
+                .collect()
+        };
+        part.map_or(whole, of_part).into_iter().map(found)
+    }
+
     fn asked(&self, hashes: Vec<u32>, room: Room) -> Asked<I> {
-        let map = &self.content.map;
+        let map = &self.of_set.map;
         let under = |hash: &[u32]| {
             let place = map.binary_search_by_key(&hash[0], |(key, _)| *key);
             place.map_or(0, |place| map[place].1.len())
@@ -598,6 +666,7 @@ impl Measuring for BesideRust {
                         &asked.hashes,
                         RATE,
                         &settings,
+                        sides.set,
                     )
                 };
                 asked.iter().map(ask).collect()
@@ -608,7 +677,7 @@ impl Measuring for BesideRust {
                 asked.iter().map(ask).collect()
             });
             assert!(
-                ours.into_iter().eq(rust.into_iter().map(found)),
+                ours.into_iter().eq(sides.answers(&asked, &config, rust)),
                 "both sides answer the same"
             );
             let [before, ours, after, rust] = took;
@@ -691,7 +760,7 @@ impl Measuring for BesideBuilds<'_> {
                     let ask = |asked: &Asked<I>| {
                         let scratch = &mut scratch[..asked.scratch];
                         let slices = sides.store.slices();
-                        build.query::<I>(slices, scratch, &asked.hashes, RATE, &settings)
+                        build.query::<I>(slices, scratch, &asked.hashes, RATE, &settings, sides.set)
                     };
                     asked.iter().map(ask).collect()
                 }));

@@ -88,7 +88,7 @@ fn others(count: usize) -> usize {
 fn recordings<I: Index>(hashes: Vec<u32>, limit: u32) -> Call {
     let parts = hashes.chunks(I::HASH * HASHES);
     let lengths = parts.map(|part| (part.len() / I::HASH) as u32).collect();
-    build::<I>(hashes, lengths, limit)
+    build(hashes, lengths, limit)
 }
 
 /// A query that has `LONG` so many times and the keys next to it once: some
@@ -148,7 +148,7 @@ fn stored_in_two<I: Asked>(
     }
     trial.expect(check, met, recordings::<I>(first, u32::MAX), built());
     let id = trial.store().header()[0];
-    trial.expect(check, met, insert::<I>(last, limit), stored(id));
+    trial.expect(check, met, insert(last, limit), stored(id));
     trial
 }
 
@@ -159,7 +159,7 @@ fn inserted_alone<I: Asked>(check: &mut Check, met: &mut Met) {
     let mut trial = Trial::<I>::empty(Sizes::new(9, 65_800, 1));
     for (id, part) in (0..).zip(PARTS) {
         let hashes = long_list::<I>(&mut check.rng, part);
-        trial.expect(check, met, insert::<I>(hashes, 65_536), stored(id));
+        trial.expect(check, met, insert(hashes, 65_536), stored(id));
     }
     let rest: usize = PARTS.map(others).iter().sum();
     has(check, &trial, 65_536 + rest, 0);
@@ -167,7 +167,7 @@ fn inserted_alone<I: Asked>(check: &mut Check, met: &mut Met) {
     trial.expect(check, met, Call::Remove { id: 3 }, removed(true));
     heard(check, met, &mut trial, 1);
     let more = long_list::<I>(&mut check.rng, 8001);
-    trial.expect(check, met, insert::<I>(more, 65_536), stored(3));
+    trial.expect(check, met, insert(more, 65_536), stored(3));
     has(check, &trial, rest + 2, 1);
     heard(check, met, &mut trial, 1);
 }
@@ -188,7 +188,7 @@ fn one_key<I: Asked>(check: &mut Check) {
     let call = ask::<I>(&mut check.rng, one.clone(), 1, 1, VOTES);
     trial.expect(check, met, call, refused(8));
     trial.expect(check, met, Call::Remove { id: 60 }, removed(true));
-    trial.expect(check, met, insert::<I>(part, limit - 1), stored(60));
+    trial.expect(check, met, insert(part, limit - 1), stored(60));
     has(check, &trial, 0, 1);
     let call = ask::<I>(&mut check.rng, one, 1, 1, 0);
     trial.expect(check, met, call, answer([5]));
@@ -204,8 +204,8 @@ fn many_equal<I: Asked>(check: &mut Check, met: &mut Met) -> Trial<I> {
     let mut trial = Trial::<I>::empty(Sizes::new(2, 1001, 1));
     let [one @ .., other] =
         KEYS.map(|(key, count)| anchored::<I>(key, std::iter::repeat_n(5000, count)));
-    trial.expect(check, met, insert::<I>(one.concat(), u32::MAX), stored(0));
-    trial.expect(check, met, insert::<I>(other, u32::MAX), stored(1));
+    trial.expect(check, met, insert(one.concat(), u32::MAX), stored(0));
+    trial.expect(check, met, insert(other, u32::MAX), stored(1));
     trial
 }
 
@@ -425,7 +425,7 @@ impl Anchors {
         let [recording, hashes] =
             [&self.stored, &self.asked].map(|list| anchored::<I>(LONG, list.iter().copied()));
         let mut trial = Trial::<I>::empty(Sizes::new(1, self.stored.len(), 1));
-        trial.expect(check, met, insert::<I>(recording, u32::MAX), stored(0));
+        trial.expect(check, met, insert(recording, u32::MAX), stored(0));
         let votes = self.stored.len() * self.asked.len();
         let call = ask::<I>(&mut check.rng, hashes, tolerance, 1, votes);
         let given = trial.call(check, met, call);

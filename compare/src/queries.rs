@@ -2,7 +2,7 @@
 //! families that come to each end.
 
 use crate::account::{Account, Call, QUERY_HASHES, Query, VOTES, built, refused, removed, stored};
-use crate::calls::{RATE, Source, some_rate};
+use crate::calls::{self, RATE, Source, some_rate};
 use crate::capi::{Answer, Settings};
 use crate::harness::{Check, Rng, Run, answer, word32};
 use crate::panako;
@@ -114,19 +114,25 @@ pub const OPEN: Settings = Settings {
     min_prominence: f32::NEG_INFINITY.to_bits(),
 };
 
-/// Hashes at the rate of the recordings, gates open; scratch is still to be
-/// given.
+/// Hashes at the rate of the recordings, gates open, all sets; scratch is
+/// still to be given.
 pub fn query(hashes: Vec<u32>, tolerance: u32) -> Query {
     Query {
         hashes,
         rate: RATE,
         settings: Settings { tolerance, ..OPEN },
+        set: 0,
         scratch: 0,
         fill: 0,
     }
 }
 
 impl Query {
+    /// The same for all sets.
+    pub fn for_all(self) -> Self {
+        Self { set: 0, ..self }
+    }
+
     /// With scratch for so many votes.
     pub fn with_room<I: Index>(mut self, rng: &mut Rng, votes: usize) -> Self {
         self.scratch = I::VOTE * votes;
@@ -136,11 +142,7 @@ impl Query {
 }
 
 fn insert(hashes: Vec<u32>) -> Call {
-    Call::Insert {
-        hashes,
-        rate: RATE,
-        limit: 100,
-    }
+    calls::insert(hashes, 100)
 }
 
 // ---- histories
@@ -268,6 +270,7 @@ pub fn some_query<I: Asked>(
         query.hashes.push(rng.pick(source.keys));
     }
     query.rate = source.rate(rng);
+    query.set = source.asked(rng);
     query.fill = rng.next();
     I::vary(rng, &mut query.settings);
     let is_asked = account.is_sound() && !I::is_beyond(&query.settings);
@@ -279,6 +282,7 @@ pub fn some_query<I: Asked>(
         0..3 => votes,
         3 => votes.saturating_sub(1),
         4 => rng.below(4) as usize,
+        5 => account.voters(&query.clone().for_all()).count(),
         _ => votes + rng.below(8) as usize,
     };
     let odd = match rng.below(24) {
@@ -366,8 +370,8 @@ fn histories<I: Asked>(check: &mut Check) {
         };
         history::<I>(check, &source, &mut others, &mut tally, calls);
     }
-    tally.end(check, &[1, 2, 3, 4, 8]);
-    others.expect(&[2, 3, 5, 6, 7]);
+    tally.end(check, &[1, 2, 3, 4, 8, 9]);
+    others.expect(&[2, 3, 5, 6, 7, 9]);
 }
 
 /// More recordings, keys and hashes than a card's, up to the highest ids.
@@ -396,7 +400,7 @@ fn larger_histories<I: Asked>(check: &mut Check) {
         };
         history::<I>(check, &source, &mut others, &mut tally, 12);
     }
-    tally.end(check, &[1, 2, 3, 4, 8]);
+    tally.end(check, &[1, 2, 3, 4, 8, 9]);
 }
 
 // ---- every one of a small kind
@@ -438,12 +442,7 @@ fn every<I: Asked>(
     for stores in pairs(&two) {
         for &limit in limits {
             let mut trial = Trial::<I>::empty(Sizes::new(2, 4, 2));
-            let build = Call::Build {
-                hashes: stores.clone(),
-                lengths: vec![2; 2],
-                rates: vec![RATE; 2],
-                limit,
-            };
+            let build = calls::build(stores.clone(), vec![2; 2], limit);
             trial.expect(check, met, build, built());
             for hashes in &asked {
                 for &tolerance in tolerances {
@@ -572,11 +571,7 @@ fn many_votes<I: Asked>(check: &mut Check) {
         if id == 3 {
             hashes.extend(like::<I>(&mut check.rng, ONE, 1, 2000));
         }
-        let call = Call::Insert {
-            hashes,
-            rate: RATE,
-            limit: u32::MAX,
-        };
+        let call = calls::insert(hashes, u32::MAX);
         trial.expect(check, met, call, stored(id));
     }
     let ask = |check: &mut Check, met: &mut Met, trial: &mut Trial<I>, asked: [usize; 3]| {
@@ -625,11 +620,11 @@ fn two_votes<I: Asked>(check: &mut Check, met: &mut Met) -> (Trial<I>, Query) {
     (trial, query)
 }
 
-/// Faults of every choice in one call: the lowest number is returned.
+/// Faults of every choice in one call: the first number is returned.
 fn order_of_refusals<I: Asked>(check: &mut Check) {
     let met = &mut Met::default();
     let (trial, sound) = two_votes::<I>(check, met);
-    for faults in 0..1 << 6 {
+    for faults in 0..1 << 7 {
         let is = |fault: u32| faults >> fault & 1 == 1;
         let mut store = trial.store().clone();
         let mut query = sound.clone();
@@ -650,18 +645,21 @@ fn order_of_refusals<I: Asked>(check: &mut Check) {
             query.settings.tolerance = 65_536;
         }
         if is(5) {
+            query.set = 256;
+        }
+        if is(6) {
             query.scratch -= I::VOTE;
         }
-        const NUMBERS: [u64; 6] = [1, 1, 2, 3, 4, 8];
-        let lowest = (0..).zip(NUMBERS).find(|&(fault, _)| is(fault));
+        const NUMBERS: [u64; 7] = [1, 1, 2, 3, 4, 9, 8];
+        let first = (0..).zip(NUMBERS).find(|&(fault, _)| is(fault));
         let mut damaged = Trial::<I>::new(store);
         let given = damaged.call(check, met, Call::Query(query));
-        match lowest {
+        match first {
             Some((_, number)) => assert_eq!(given, refused(number)),
             None => assert_eq!(given[..2], [4, 0]),
         }
     }
-    met.expect(&[1, 2, 3, 4, 8]);
+    met.expect(&[1, 2, 3, 4, 8, 9]);
 }
 
 /// Scratch of every length up to three votes, and about the greatest.

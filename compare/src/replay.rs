@@ -3,11 +3,11 @@
 //! tells of its lines.
 
 use crate::account::{Account, Call, QUERY_HASHES, Query};
-use crate::calls::{RATE, Source, build, insert};
+use crate::calls::{Source, build, insert};
 use crate::capi::Answer;
 use crate::damage;
 use crate::harness::{Check, Rng, Run};
-use crate::queries::{Asked, OPEN, hash, query, some_other, some_query, some_rates, some_times};
+use crate::queries::{Asked, hash, query, some_other, some_query, some_rates, some_times};
 use crate::sheet::{at_root, printed, program};
 use crate::store::{Index, Panako, Sizes, Store, Wang};
 use crate::trial::Met;
@@ -84,36 +84,42 @@ impl List {
                 lengths,
                 rates,
                 limit,
+                sets,
             } => {
-                let counts = [lengths.len() as u32, rates.len() as u32];
-                let fields = [&[*limit], &counts[..], lengths, rates, hashes].concat();
-                self.line('B', &fields);
+                let lists = [lengths, rates, sets];
+                let counts = lists.map(|list| list.len() as u32);
+                let lists = lists.map(|list| &list[..]).concat();
+                self.line('B', &[&[*limit], &counts[..], &lists, hashes].concat());
             }
             Call::Insert {
                 hashes,
                 rate,
                 limit,
-            } => self.line('I', &[&[*limit, *rate], &hashes[..]].concat()),
+                set,
+            } => self.line('I', &[&[*limit, *rate, *set], &hashes[..]].concat()),
             Call::Remove { id } => self.line('D', &[*id]),
             Call::LiveCount => self.line('C', &[]),
-            Call::Query(query) => {
-                let of = &query.settings;
-                let fixed = [
-                    query.scratch as u32,
-                    query.fill as u32,
-                    query.rate,
-                    of.scale_min,
-                    of.scale_max,
-                    of.scale_bins,
-                    of.tolerance,
-                    of.min_votes,
-                    of.min_score,
-                    of.min_prominence,
-                ];
-                self.line('Q', &[&fixed, &query.hashes[..]].concat());
-            }
+            Call::Query(query) => self.line('Q', &query_words(query)),
         }
     }
+}
+
+fn query_words(query: &Query) -> Vec<u32> {
+    let of = &query.settings;
+    let fixed = [
+        query.scratch as u32,
+        query.fill as u32,
+        query.rate,
+        of.scale_min,
+        of.scale_max,
+        of.scale_bins,
+        of.tolerance,
+        of.min_votes,
+        of.min_score,
+        of.min_prominence,
+        query.set,
+    ];
+    [&fixed, &query.hashes[..]].concat()
 }
 
 /// A store to begin with, now and then with a damaged word or a wrong length.
@@ -177,7 +183,7 @@ fn groups<I: Asked>(rng: &mut Rng, list: &mut List) {
         };
         group::<I>(rng, list, met, &source, if larger { 16 } else { 9 });
     }
-    met.expect(&[1, 2, 3, 4, 5, 6, 7, 8]);
+    met.expect(&[1, 2, 3, 4, 5, 6, 7, 8, 9]);
     assert!(
         met.cases[..7].iter().all(|&count| count > 0),
         "{:?}",
@@ -191,13 +197,7 @@ fn longest_queries(list: &mut List) {
     list.lend::<Wang>(&store);
     let mut account = Account::<Wang>::new(store);
     for hashes in [QUERY_HASHES, QUERY_HASHES + 1] {
-        let call = Call::Query(Query {
-            hashes: vec![7; 2 * hashes],
-            rate: RATE,
-            settings: OPEN,
-            scratch: 0,
-            fill: 0,
-        });
+        let call = Call::Query(query(vec![7; 2 * hashes], 0));
         list.call(&mut account, &call);
     }
 }
@@ -212,7 +212,7 @@ fn fullest<I: Asked>(list: &mut List) {
         let one = |i| hash::<I>(7, i % latest, 100);
         (0..count as u32).flat_map(one).collect()
     };
-    let insertion = |limit: usize| insert::<I>(hashes(ONE, 1), limit as u32);
+    let insertion = |limit: usize| insert(hashes(ONE, 1), limit as u32);
     let heard = |count: usize, less: usize| {
         Call::Query(Query {
             scratch: SCRATCH - I::VOTE * less,
@@ -221,7 +221,7 @@ fn fullest<I: Asked>(list: &mut List) {
     };
     let votes = SCRATCH / I::VOTE;
     let many = vec![ONE as u32; MOST / ONE];
-    let full = build::<I>(hashes(MOST, 8), many, MOST as u32);
+    let full = build(hashes(MOST, 8), many, MOST as u32);
     let few = votes / MOST;
     let calls = [
         (full, 0),
@@ -230,7 +230,7 @@ fn fullest<I: Asked>(list: &mut List) {
         (Call::Remove { id: 3 }, 2),
         (insertion(MOST - 1), 1),
         (heard(few, 0), 5),
-        (build::<I>(Vec::new(), Vec::new(), 0), 0),
+        (build(Vec::new(), Vec::new(), 0), 0),
         (insertion(ONE), 1),
         (heard(votes / ONE, 0), 4),
         (heard(votes / ONE, 1), 6),

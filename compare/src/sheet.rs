@@ -2,10 +2,10 @@
 //! through a sheet written here over the unchanged index.
 
 use crate::account::{Account, Call, Query};
-use crate::calls::Source;
+use crate::calls::{Source, insert};
 use crate::capi::{Answer, Settings, sheet_card_sheet_of};
 use crate::harness::{Check, Rng, Run};
-use crate::queries::{OPEN, hear, some_query, some_rates, some_times};
+use crate::queries::{self, OPEN, hear, some_query, some_rates, some_times};
 use crate::store::{Sizes, Store, Wang};
 use std::collections::BTreeMap;
 use std::fmt::Write as _;
@@ -64,12 +64,18 @@ fn record_at(rest: &[u8]) -> Option<(Call, usize)> {
     let (kind, fields) = rest.get(..length)?.split_first()?;
     let (fields, _) = fields.as_chunks();
     let fields: Vec<u32> = fields.iter().map(|&b| u32::from_be_bytes(b)).collect();
-    // "lacks a fixed field of its kind, or for 02 isn't 5"
-    let call = match (kind, &fields[..]) {
+    Some((call_of(*kind, &fields)?, 4 + length))
+}
+
+/// None where it "lacks a fixed field of its kind, or for 02 isn't 5".
+fn call_of(kind: u8, fields: &[u32]) -> Option<Call> {
+    let call = match (kind, fields) {
+        // "The sheet stores under set 1 and asks for 0."
         (1, &[limit, rate, ref hashes @ ..]) => Call::Insert {
             hashes: hashes.to_vec(),
             rate,
             limit,
+            set: 1,
         },
         (2, &[id]) => Call::Remove { id },
         (
@@ -92,12 +98,13 @@ fn record_at(rest: &[u8]) -> Option<(Call, usize)> {
                 min_prominence,
                 ..OPEN
             },
+            set: 0,
             scratch: SCRATCH,
             fill: 0,
         }),
         _ => return None,
     };
-    Some((call, 4 + length))
+    Some(call)
 }
 
 fn line(call: &Call, answer: &Answer) -> String {
@@ -123,6 +130,7 @@ fn record(call: &Call) -> Vec<u8> {
             hashes,
             rate,
             limit,
+            ..
         } => (1, [&[*limit, *rate], &hashes[..]].concat()),
         Call::Remove { id } => (2, vec![*id]),
         Call::Query(query) => {
@@ -325,6 +333,7 @@ impl Kind<'_> {
             hashes,
             rate: self.source.rate(rng),
             limit: self.source.limit(rng),
+            set: 1,
         }
     }
 
@@ -386,6 +395,7 @@ fn some_calls(rng: &mut Rng) -> Vec<Call> {
             2 => 30,
             _ => 5,
         },
+        asked: &[0],
         ..Source::any(SIZES, &keys, 0)
     };
     let kind = Kind {
@@ -423,21 +433,10 @@ fn ascending(key: u32, count: usize, step: u32) -> Vec<u32> {
         .collect()
 }
 
-fn insert(hashes: Vec<u32>, limit: u32) -> Call {
-    Call::Insert {
-        hashes,
-        rate: crate::calls::RATE,
-        limit,
-    }
-}
-
 fn query(hashes: Vec<u32>, tolerance: u32) -> Call {
     Call::Query(Query {
-        hashes,
-        rate: crate::calls::RATE,
-        settings: Settings { tolerance, ..OPEN },
         scratch: SCRATCH,
-        fill: 0,
+        ..queries::query(hashes, tolerance)
     })
 }
 

@@ -2,7 +2,7 @@
 //! painted, the entry is called, and the lowest word that it wrote is looked
 //! for.
 
-use crate::calls::RATE;
+use crate::calls::{RATE, SETS};
 use crate::capi::Answer;
 use crate::harness::{Check, Rng, Run};
 use crate::store::{Index, Panako, Sizes, Store, Wang};
@@ -72,19 +72,21 @@ fn measure<I: Index>(seed: u64) -> [usize; 5] {
                     &lengths,
                     &[RATE; 3],
                     30 + turn,
+                    &SETS,
                 ))
             }),
         );
         let list = hashes(8192, 14);
         keep(
             1,
-            depth(|| accepted((entries.insert)(store.lend(), &list, RATE, 4))),
+            depth(|| accepted((entries.insert)(store.lend(), &list, RATE, 4, SETS[0]))),
         );
         let heard = hashes(2048, 9);
-        keep(
-            4,
-            depth(|| accepted(query(store.slices(), &mut scratch, &heard, RATE, &settings))),
-        );
+        for set in [0, SETS[0]] {
+            let slices = store.slices();
+            let ask = || accepted(query(slices, &mut scratch, &heard, RATE, &settings, set));
+            keep(4, depth(ask));
+        }
         keep(3, depth(|| accepted((entries.live_count)(store.slices()))));
         keep(2, depth(|| accepted((entries.remove)(store.lend(), 1))));
     }

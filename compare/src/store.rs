@@ -44,9 +44,11 @@ pub struct Store {
     pub stopped: Vec<u32>,
 }
 
-/// Words before the rows, and of a row.
+/// Words before the rows, and of a row: rate, r_max, live, vacant entry, set.
 pub const HEADER: usize = 4;
-pub const ROW: usize = 4;
+pub const ROW: usize = 5;
+/// Where a row has its set.
+pub const SET: usize = 4;
 
 impl Store {
     pub fn zeroed<I: Index>(sizes: Sizes) -> Self {
@@ -78,6 +80,12 @@ impl Store {
 
     pub fn rows(&self) -> impl ExactSizeIterator<Item = &[u32]> + DoubleEndedIterator {
         self.refs[HEADER..].chunks_exact(ROW)
+    }
+
+    /// The set of each recording, 0 where none is live.
+    pub fn sets(&self) -> Vec<u32> {
+        let n = self.header()[0] as usize;
+        self.rows().take(n).map(|row| row[SET]).collect()
     }
 
     pub fn slices(&self) -> [&[u32]; 3] {
@@ -324,8 +332,9 @@ impl Index for Panako {
     calls_of!(PanakoIndex);
 }
 
-/// The store that holds what an index of the reference holds.
-pub fn write<I: Index>(content: &Content<I>, sizes: Sizes) -> Store {
+/// The store that holds what an index of the reference holds, with a set for
+/// each of its ids.
+pub fn write<I: Index>(content: &Content<I>, sets: &[u32], sizes: Sizes) -> Store {
     let mut store = Store::zeroed::<I>(sizes);
     let postings: usize = content.map.iter().map(|(_, list)| list.len()).sum();
     let counts = [
@@ -341,6 +350,7 @@ pub fn write<I: Index>(content: &Content<I>, sizes: Sizes) -> Store {
         row[0] = word32(content.fps[id]) as u32;
         row[1] = content.r_max.get(id).copied().unwrap_or(0);
         row[2] = content.live[id].into();
+        row[SET] = sets[id];
     }
     for (row, &id) in rows.chunks_exact_mut(ROW).zip(&content.vacant) {
         row[3] = id;
@@ -379,4 +389,20 @@ pub fn read<I: Index>(store: &Store) -> Content<I> {
         vacant: store.rows().take(v).map(|row| row[3]).collect(),
         stopped: store.stopped[..k].to_vec(),
     }
+}
+
+/// What is left of an index "without the other sets' postings", by the set of
+/// each id; all of it for 0.
+pub fn of_set<I: Index>(mut content: Content<I>, sets: &[u32], set: u32) -> Content<I> {
+    let votes = |posting: &I::Posting| is_asked(set, sets[posting.words().as_ref()[0] as usize]);
+    for (_, list) in &mut content.map {
+        list.retain(votes);
+    }
+    content.map.retain(|(_, list)| !list.is_empty());
+    content
+}
+
+/// "A query names a set, or 0 for all": whether a recording's set is asked.
+pub fn is_asked(asked: u32, set: u32) -> bool {
+    asked == 0 || asked == set
 }

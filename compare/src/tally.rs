@@ -1,7 +1,7 @@
 //! What the queries of a check came to, for a reader to see, and for the check
 //! to fail where it no longer comes to what it is there for.
 
-use crate::account::{Query, found};
+use crate::account::{Account, Query, found, refused};
 use crate::capi::Answer;
 use crate::harness::{Check, word32};
 use crate::store::Index;
@@ -32,6 +32,10 @@ pub struct Tally {
     stopped: u64,
     /// Best with frames below 0.
     early: u64,
+    /// A set has another answer than all of them; has one, where all have too
+    /// many votes.
+    another: u64,
+    fewer: u64,
 }
 
 impl Tally {
@@ -57,17 +61,8 @@ impl Tally {
         self.filled += u64::from(votes > 0 && votes == room);
         let mut keys = query.hashes.chunks_exact(I::HASH).map(|hash| hash[0]);
         self.stopped += u64::from(keys.any(|key| account.is_stopped(key)));
-
-        let a = query.rate;
-        let rows: Vec<&[u32]> = account.store.rows().collect();
-        let rates = || {
-            account
-                .voters(query)
-                .map(|posting| rows[posting[1] as usize][0])
-        };
-        let agree = |b: u32| Reach::frames_per_sec_compatible(f32::from_bits(a), f32::from_bits(b));
-        self.near_rate += u64::from(rates().any(|b| b != a && agree(b)));
-        self.other_rate += u64::from(rates().any(|b| !agree(b)));
+        self.add_set(account, query, answer);
+        self.add_rates(account, query);
 
         if let Some((_, result)) = open
             && *answer != found(open)
@@ -83,6 +78,26 @@ impl Tally {
                 values.map(|value| value + 1),
             );
         }
+    }
+
+    /// Of an accepted query: what all sets answer.
+    fn add_set<I: Index>(&mut self, account: &Account<I>, query: &Query, answer: &Answer) {
+        let all = account.answer_to(&query.clone().for_all());
+        self.another += u64::from(all[0] != 6 && all != *answer);
+        self.fewer += u64::from(all == refused(8));
+    }
+
+    fn add_rates<I: Index>(&mut self, account: &Account<I>, query: &Query) {
+        let a = query.rate;
+        let rows: Vec<&[u32]> = account.store.rows().collect();
+        let rates = || {
+            account
+                .voters(query)
+                .map(|posting| rows[posting[1] as usize][0])
+        };
+        let agree = |b: u32| Reach::frames_per_sec_compatible(f32::from_bits(a), f32::from_bits(b));
+        self.near_rate += u64::from(rates().any(|b| b != a && agree(b)));
+        self.other_rate += u64::from(rates().any(|b| !agree(b)));
     }
 
     fn add_best<I: Index>(&mut self, trial: &Trial<I>, query: &Query, answer: &Answer) {
@@ -101,6 +116,32 @@ impl Tally {
     /// Prints all counts; fails where one is 0, or one of these refusals was
     /// never met.
     pub fn end(&self, check: &mut Check, refusals: &[usize]) {
+        self.note_answers(check);
+        self.note_places(check);
+        self.met.expect(refusals);
+        let [.., best, none, _, _] = self.met.cases;
+        let others = [
+            best,
+            none,
+            self.near_rate,
+            self.other_rate,
+            self.barred,
+            self.filled,
+            self.over,
+            self.stopped,
+            self.early,
+            self.another,
+            self.fewer,
+        ];
+        let mut counts = others
+            .iter()
+            .chain(&self.ranks)
+            .chain(&self.at_gate)
+            .chain(&self.above_gate);
+        assert!(counts.all(|&count| count > 0), "a count above is 0");
+    }
+
+    fn note_answers(&self, check: &mut Check) {
         let [.., best, none, refused, _] = self.met.cases;
         let numbers = (1..).zip(&self.met.refusals[1..]);
         let numbers: Vec<String> = numbers
@@ -119,6 +160,9 @@ impl Tally {
              by id {by_id}; frames below 0 {}",
             self.early
         ));
+    }
+
+    fn note_places(&self, check: &mut Check) {
         let told = |[votes, score, prominence]: [u64; 3]| {
             format!("votes {votes}, score {score}, prominence {prominence}")
         };
@@ -133,24 +177,10 @@ impl Tally {
              votes fill the scratch {}, are one too many {}",
             self.near_rate, self.other_rate, self.stopped, self.filled, self.over
         ));
-        self.met.expect(refusals);
-        let others = [
-            best,
-            none,
-            self.near_rate,
-            self.other_rate,
-            self.barred,
-            self.filled,
-            self.over,
-            self.stopped,
-            self.early,
-        ];
-        let mut counts = others
-            .iter()
-            .chain(&self.ranks)
-            .chain(&self.at_gate)
-            .chain(&self.above_gate);
-        assert!(counts.all(|&count| count > 0), "a count above is 0");
+        check.note(format!(
+            "a set answers otherwise than all {}, and where all have too many votes {}",
+            self.another, self.fewer
+        ));
     }
 }
 

@@ -103,7 +103,7 @@ fn is_refused(answer: &Answer) -> bool {
 #[derive(Default)]
 pub struct Met {
     pub cases: [u64; 8],
-    pub refusals: [u64; 9],
+    pub refusals: [u64; 10],
 }
 
 impl Met {
@@ -194,12 +194,14 @@ impl<I: Index> Trial<I> {
                 lengths,
                 rates,
                 limit,
-            } => (entries.build)(lent, hashes, lengths, rates, *limit),
+                sets,
+            } => (entries.build)(lent, hashes, lengths, rates, *limit, sets),
             Call::Insert {
                 hashes,
                 rate,
                 limit,
-            } => (entries.insert)(lent, hashes, *rate, *limit),
+                set,
+            } => (entries.insert)(lent, hashes, *rate, *limit, *set),
             Call::Remove { id } => (entries.remove)(lent, *id),
             Call::LiveCount => (entries.live_count)(lent.map(|words| &*words)),
             Call::Query(query) => {
@@ -208,7 +210,13 @@ impl<I: Index> Trial<I> {
                 self.scratch.fill(query.filling());
                 self.hashes.fill(query.hashes.iter().copied());
                 let (scratch, hashes) = (self.scratch.words(), self.hashes.words());
-                entry(store, scratch, hashes, query.rate, &query.settings)
+                let Query {
+                    rate,
+                    settings,
+                    set,
+                    ..
+                } = query;
+                entry(store, scratch, hashes, *rate, settings, *set)
             }
         }
     }
@@ -298,27 +306,31 @@ fn told(call: &Call) -> String {
             lengths,
             rates,
             limit,
+            sets,
         } => format!(
-            "build: hashes {}; lengths {}; rates {}; limit {limit}",
+            "build: hashes {}; lengths {}; rates {}; limit {limit}; sets {}",
             shown(hashes),
             shown(lengths),
-            shown(rates)
+            shown(rates),
+            shown(sets)
         ),
         Call::Insert {
             hashes,
             rate,
             limit,
+            set,
         } => format!(
-            "insert: hashes {}; rate {rate:X}; limit {limit}",
+            "insert: hashes {}; rate {rate:X}; limit {limit}; set {set}",
             shown(hashes)
         ),
         Call::Remove { id } => format!("remove: id {id}"),
         Call::LiveCount => String::from("live_count"),
         Call::Query(query) => format!(
-            "query: hashes {}; rate {:X}; {:X?}; scratch of {} words, filled from {:X}",
+            "query: hashes {}; rate {:X}; {:X?}; set {}; scratch of {} words, filled from {:X}",
             shown(&query.hashes),
             query.rate,
             query.settings,
+            query.set,
             query.scratch,
             query.fill
         ),

@@ -84,18 +84,18 @@ module _ (limit : ℕ) (new : List Posting) where
 
 -- ---- the entries laid down
 
-module _ (words : List ℕ) (w : ℕ) (lengths rates : List ℕ) (w3 : 3 ≤ w) (fit : Fit words (w - 1) lengths) (sums : sum lengths ≡ hashCount w words) (rated : length rates ≡ length lengths) where
+module _ (words : List ℕ) (w : ℕ) (lengths rates sets : List ℕ) (w3 : 3 ≤ w) (fit : Fit words (w - 1) lengths) (sums : sum lengths ≡ hashCount w words) (rated : length rates ≡ length lengths) (grouped : length sets ≡ length lengths) where
   abbrev pub fs : List Fingerprint
-  fs = fingerprintsOf w words lengths rates
+  fs = fingerprintsOf w words lengths rates sets
 
   abbrev pub new : List Posting
-  new = numbered 0 (fingerprintsOf w words lengths rates)
+  new = numbered 0 (fingerprintsOf w words lengths rates sets)
 
   post-ranks : map (postOf words w lengths) (map rankOf (inOrder words (w - 1) lengths)) ≡ placeAll keyOf new []
   post-ranks =
       ap (map (postOf words w lengths)) (ordered-is words (w - 1) lengths fit)
       ∙ sym (placeAll-map keyOf (postOf words w lengths) (ranksFrom 0 lengths) [])
-      ∙ ap (λ l. placeAll keyOf l []) (sym (numbered-is words w lengths (omega arith) (fit .short) (omega arith) rates rated))
+      ∙ ap (λ l. placeAll keyOf l []) (sym (numbered-is words w lengths (omega arith) (fit .short) (omega arith) rates sets rated grouped))
 
   pub laid-is : laidEntries words w lengths ≡ map postingWords (placeAll keyOf new [])
   unfolding laidEntries
@@ -121,13 +121,14 @@ listed-cons f (suc n) = ap (λ l. l ++ f (suc n) ∷ []) (listed-cons f n)
 
 module _ (words : List ℕ) (w : ℕ) (lengths : List ℕ) where
   -- those of recordings id, id + 1, ..
-  rows-from : (id : ℕ) (ls rates : List ℕ) → ls ≡ drop id lengths → length rates ≡ length ls
-      → rowEntries (map (λ f. some (rowOf w f)) (divided (drop (sum (take id lengths)) (hashesOf w words)) ls rates)) []
-      ≡ tabulate (λ j. rowFor words w (sum (take (id + j) lengths)) (getD ls j 0) (getD rates j 0)) (length ls)
+  rows-from : (id : ℕ) (ls rates sets : List ℕ) → ls ≡ drop id lengths → length rates ≡ length ls → length sets ≡ length ls
+      → rowEntries (map (λ f. some (rowOf w f)) (divided (drop (sum (take id lengths)) (hashesOf w words)) ls rates sets)) []
+      ≡ tabulate (λ j. rowFor words w (sum (take (id + j) lengths)) (getD ls j 0) (getD rates j 0) (getD sets j 0)) (length ls)
   unfolding divided rowEntries tabulate rowFor
-  rows-from id [] rates e r = refl
-  rows-from id (n ∷ ls) [] e r = absurd (omega arith)
-  rows-from id (n ∷ ls) (q ∷ rates) e r =
+  rows-from id [] rates sets e r g = refl
+  rows-from id (n ∷ ls) [] sets e r g = absurd (omega arith)
+  rows-from id (n ∷ ls) (q ∷ rates) [] e r g = absurd (omega arith)
+  rows-from id (n ∷ ls) (q ∷ rates) (x ∷ sets) e r k =
       let start : ℕ = sum (take id lengths) in
       let lt : id < length lengths = omega (arith, ap length e ∙ length-drop id lengths) in
       let both : n ∷ ls ≡ getD lengths id 0 ∷ drop (suc id) lengths = e ∙ drop-cons lengths id 0 lt in
@@ -135,20 +136,20 @@ module _ (words : List ℕ) (w : ℕ) (lengths : List ℕ) where
       let el : ls ≡ drop (suc id) lengths = ap (drop 1) both in
       let next : start + n ≡ sum (take (suc id) lengths) = rw en (sym (rw add-one at (sum-more lengths id lt))) in
       let z : id + 0 ≡ id = omega arith in
-      let f : ℕ → List ℕ = λ j. rowFor words w (sum (take (id + j) lengths)) (getD (n ∷ ls) j 0) (getD (q ∷ rates) j 0) in
-      let g : ℕ → List ℕ = λ j. rowFor words w (sum (take (suc id + j) lengths)) (getD ls j 0) (getD rates j 0) in
-      let ih = rows-from (suc id) ls rates el (omega arith) in
-      let first : rowWords (some (rowOf w (record { rate = q; hashes = take n (drop start (hashesOf w words)) }))) 0 ≡ f 0 = rw z in
+      let f : ℕ → List ℕ = λ j. rowFor words w (sum (take (id + j) lengths)) (getD (n ∷ ls) j 0) (getD (q ∷ rates) j 0) (getD (x ∷ sets) j 0) in
+      let g : ℕ → List ℕ = λ j. rowFor words w (sum (take (suc id + j) lengths)) (getD ls j 0) (getD rates j 0) (getD sets j 0) in
+      let ih = rows-from (suc id) ls rates sets el (omega arith) (omega arith) in
+      let first : rowWords (some (rowOf w (record { rate = q; set = x; hashes = take n (drop start (hashesOf w words)) }))) 0 ≡ f 0 = rw z in
       let later : tabulate (λ j. f (suc j)) (length ls) ≡ tabulate g (length ls) = listed-same (λ j. f (suc j)) g (length ls) (λ j l. let s : id + suc j ≡ suc id + j = omega arith in rw s) in
-      let rest : rowEntries (map (λ f. some (rowOf w f)) (divided (drop n (drop start (hashesOf w words))) ls rates)) [] ≡ tabulate (λ j. f (suc j)) (length ls) =
+      let rest : rowEntries (map (λ f. some (rowOf w f)) (divided (drop n (drop start (hashesOf w words))) ls rates sets)) [] ≡ tabulate (λ j. f (suc j)) (length ls) =
       rw (drop-drop n start (hashesOf w words), next, later) ih in
       rw (first, rest) (sym (listed-cons f (length ls)))
 
-  pub rows-is : (rates : List ℕ) → length rates ≡ length lengths
-      → rowEntries (map (λ f. some (rowOf w f)) (fingerprintsOf w words lengths rates)) []
-      ≡ tabulate (λ i. rowFor words w (sum (take i lengths)) (getD lengths i 0) (getD rates i 0)) (length lengths)
+  pub rows-is : (rates sets : List ℕ) → length rates ≡ length lengths → length sets ≡ length lengths
+      → rowEntries (map (λ f. some (rowOf w f)) (fingerprintsOf w words lengths rates sets)) []
+      ≡ tabulate (λ i. rowFor words w (sum (take i lengths)) (getD lengths i 0) (getD rates i 0) (getD sets i 0)) (length lengths)
   unfolding sum
-  rows-is rates r =
-      rows-from 0 lengths rates refl r
-      ∙ listed-same (λ j. rowFor words w (sum (take (0 + j) lengths)) (getD lengths j 0) (getD rates j 0)) (λ i. rowFor words w (sum (take i lengths)) (getD lengths i 0) (getD rates i 0)) (length lengths)
+  rows-is rates sets r g =
+      rows-from 0 lengths rates sets refl r g
+      ∙ listed-same (λ j. rowFor words w (sum (take (0 + j) lengths)) (getD lengths j 0) (getD rates j 0) (getD sets j 0)) (λ i. rowFor words w (sum (take i lengths)) (getD lengths i 0) (getD rates i 0) (getD sets i 0)) (length lengths)
       (λ j l. let z : 0 + j ≡ j = omega arith in rw z)

@@ -56,12 +56,13 @@ part-is words w start n w2 h =
 
 module _ (words : List ℕ) (w : ℕ) (lengths : List ℕ) (w2 : 2 ≤ w) (short : All (λ n. n ≤ 8192) lengths) (whole : sum lengths ≤ hashCount w words) where
   -- of recordings id, id + 1, ..
-  from : (id : ℕ) (ls rates : List ℕ) → ls ≡ drop id lengths → All (λ n. n ≤ 8192) ls → length rates ≡ length ls → sum (take id lengths) + sum ls ≤ hashCount w words
-      → numbered id (divided (drop (sum (take id lengths)) (hashesOf w words)) ls rates) ≡ map (postOf words w lengths) (ranksFrom id ls)
+  from : (id : ℕ) (ls rates sets : List ℕ) → ls ≡ drop id lengths → All (λ n. n ≤ 8192) ls → length rates ≡ length ls → length sets ≡ length ls → sum (take id lengths) + sum ls ≤ hashCount w words
+      → numbered id (divided (drop (sum (take id lengths)) (hashesOf w words)) ls rates sets) ≡ map (postOf words w lengths) (ranksFrom id ls)
   unfolding numbered divided ranksFrom sum
-  from id [] rates e s r h = refl
-  from id (n ∷ ls) [] e s r h = absurd (omega arith)
-  from id (n ∷ ls) (q ∷ rates) e s r h =
+  from id [] rates sets e s r g h = refl
+  from id (n ∷ ls) [] sets e s r g h = absurd (omega arith)
+  from id (n ∷ ls) (q ∷ rates) [] e s r g h = absurd (omega arith)
+  from id (n ∷ ls) (q ∷ rates) (x ∷ sets) e s r g h =
       let start : ℕ = sum (take id lengths) in
       let n8 = s .0 in
       let lt : id < length lengths = omega (arith, ap length e ∙ length-drop id lengths) in
@@ -76,11 +77,11 @@ module _ (words : List ℕ) (w : ℕ) (lengths : List ℕ) (w2 : 2 ≤ w) (short
       ∙ listed-same (λ j. record { id = id; hash = hashAt words w (start + j) }) (λ j. postOf words w lengths (8192 * id + j)) n
       (λ j l. let d : (8192 * id + j) / 8192 ≡ id = omega arith in rw (place-is lengths id j (omega arith), d))
       ∙ sym (map-listed (postOf words w lengths) (λ j. 8192 * id + j) n) in
-      let ih = from (suc id) ls rates el (s .1) (omega arith) (omega (arith, next)) in
-      let rest : numbered (suc id) (divided (drop n (drop start (hashesOf w words))) ls rates) ≡ map (postOf words w lengths) (ranksFrom (suc id) ls) =
+      let ih = from (suc id) ls rates sets el (s .1) (omega arith) (omega arith) (omega (arith, next)) in
+      let rest : numbered (suc id) (divided (drop n (drop start (hashesOf w words))) ls rates sets) ≡ map (postOf words w lengths) (ranksFrom (suc id) ls) =
       rw (drop-drop n start (hashesOf w words), next) ih in
       rw (mine, rest) (sym (map-append (postOf words w lengths) (tabulate (λ j. 8192 * id + j) n) (ranksFrom (suc id) ls)))
 
-  pub numbered-is : (rates : List ℕ) → length rates ≡ length lengths → numbered 0 (divided (hashesOf w words) lengths rates) ≡ map (postOf words w lengths) (ranksFrom 0 lengths)
+  pub numbered-is : (rates sets : List ℕ) → length rates ≡ length lengths → length sets ≡ length lengths → numbered 0 (divided (hashesOf w words) lengths rates sets) ≡ map (postOf words w lengths) (ranksFrom 0 lengths)
   unfolding sum
-  numbered-is rates r = from 0 lengths rates refl short r (omega arith)
+  numbered-is rates sets r g = from 0 lengths rates sets refl short r g (omega arith)

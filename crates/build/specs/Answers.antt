@@ -18,10 +18,10 @@ buildingAnswer (Refused n) = refused n
 buildingAnswer Built = built
 
 -- why a build is refused: "The lowest number that applies is returned."
-unfoldable pub buildRefusal : ℕ → Words → ℕ → List ℕ → List ℕ → List ℕ → ℕ
-buildRefusal w m limit hashes lengths rates =
-    numberOf (refusal (buildTests (sizesOf w m) (storeOf w m) (malformedBuild w hashes lengths rates) limit (fingerprintsOf w hashes lengths rates)))
+unfoldable pub buildRefusal : ℕ → Words → ℕ → List ℕ → List ℕ → List ℕ → List ℕ → ℕ
+buildRefusal w m limit hashes lengths rates sets =
+    numberOf (refusal (buildTests (sizesOf w m) (storeOf w m) (malformedBuild w hashes lengths rates sets) limit (fingerprintsOf w hashes lengths rates sets)))
 
--- the rows of all recordings, each 4 words
-abbrev pub rowsFor : List ℕ → ℕ → List ℕ → List ℕ → List (List ℕ)
-rowsFor hashes w lengths rates = tabulate (λ i. rowFor hashes w (sum (take i lengths)) (getD lengths i 0) (getD rates i 0)) (length lengths)
+-- the rows of all recordings
+abbrev pub rowsFor : List ℕ → ℕ → List ℕ → List ℕ → List ℕ → List (List ℕ)
+rowsFor hashes w lengths rates sets = tabulate (λ i. rowFor hashes w (sum (take i lengths)) (getD lengths i 0) (getD rates i 0) (getD sets i 0)) (length lengths)

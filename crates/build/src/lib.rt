@@ -11,6 +11,7 @@ ghost use Rattle.build_ranges.specs.Codes.{Fit};
 ghost use Rattle.build_stops.specs.Over.{overKeys, keysOf, kept};
 ghost use Rattle.build_entries.specs.Laid.{laidEntries};
 ghost use Rattle.model.specs.Fingerprints.{malformedBuild, referenceMost};
+ghost use Rattle.model.specs.Rows.{isSet};
 ghost use Rattle.model.specs.Run.{runBuild};
 ghost use Rattle.soundness.specs.Scan.{words, lent};
 ghost use Rattle.model.specs.Words.{headWidth, rowWidth};
@@ -45,16 +46,33 @@ fn lengths_fit(lengths: &[u32], m: usize) -> bool
     total == m
 }
 
+// Whether any set is one that no recording can be of.
+fn has_faulty_set(sets: &[u32]) -> bool
+    ensures { λ r. ⌜ r ≡ some? (λ s. not (isSet s)) (now (sets .entry)) ⌝ }
+{
+    let mut i = 0;
+    while i < sets.len() {
+        if !rows::is_set(at(sets, i)) {
+            return true;
+        }
+        i += 1;
+    }
+    false
+}
+
 // Whether a build's words are malformed.
-fn is_malformed(hashes: &[u32], lengths: &[u32], rates: &[u32], w: usize) -> bool
+fn is_malformed(hashes: &[u32], lengths: &[u32], rates: &[u32], sets: &[u32], w: usize) -> bool
     requires { ⌜ (3 ≤ w) × (w ≤ 5) ⌝ }
-    ensures { λ r. ⌜ r ≡ malformedBuild w (now (hashes .entry)) (now (lengths .entry)) (now (rates .entry)) ⌝ }
+    ensures { λ r. ⌜ r ≡ malformedBuild w (now (hashes .entry)) (now (lengths .entry)) (now (rates .entry)) (now (sets .entry)) ⌝ }
 {
     let v = w - 1;
     if hashes.len() % v != 0 {
         return true;
     }
     if rates.len() != lengths.len() {
+        return true;
+    }
+    if sets.len() != lengths.len() {
         return true;
     }
     !lengths_fit(lengths, hashes.len() / v)
@@ -70,15 +88,19 @@ fn refusal_of(
     rates: &[u32],
     w: usize,
     limit: u32,
+    sets: &[u32],
 ) -> u32
     requires { ⌜ (3 ≤ w) × (w ≤ 5) ⌝ }
-    ensures { λ r. ⌜ r ≡ buildRefusal w (words (now (refs .entry)) (now (posts .entry)) (now (stops .entry))) limit (now (hashes .entry)) (now (lengths .entry)) (now (rates .entry)) ⌝ }
+    ensures { λ r. ⌜ r ≡ buildRefusal w (words (now (refs .entry)) (now (posts .entry)) (now (stops .entry))) limit (now (hashes .entry)) (now (lengths .entry)) (now (rates .entry)) (now (sets .entry)) ⌝ }
 {
     if !soundness::is_listed(refs, posts, stops, w) {
         return 1;
     }
-    if is_malformed(hashes, lengths, rates, w) {
+    if is_malformed(hashes, lengths, rates, sets, w) {
         return 3;
+    }
+    if has_faulty_set(sets) {
+        return 9;
     }
     if (refs.len() - rows::HEAD_WIDTH) / rows::ROW_WIDTH < lengths.len() {
         return 5;
@@ -127,17 +149,18 @@ fn put_references(
     w: usize,
     lengths: &[u32],
     rates: &[u32],
+    sets: &[u32],
     p: usize,
     k: usize,
 )
-    requires { ⌜ (3 ≤ w) × (headWidth + rowWidth * length (now lengths) ≤ length (now refs)) × (length (now rates) ≡ length (now lengths)) × Fit (now hashes) (w - 1) (now lengths)
+    requires { ⌜ (3 ≤ w) × (headWidth + rowWidth * length (now lengths) ≤ length (now refs)) × (length (now rates) ≡ length (now lengths)) × (length (now sets) ≡ length (now lengths)) × Fit (now hashes) (w - 1) (now lengths)
         × (p < 0x1_0000_0000) × (k < 0x1_0000_0000) ⌝ }
     ensures { λ _. ⌜ now (refs .exit) ≡ padded (length (now (refs .entry))) (length (now (lengths .entry)) ∷ 0 ∷ p ∷ k
-        ∷ flat (rowsFor (now (hashes .entry)) w (now (lengths .entry)) (now (rates .entry)))) ⌝ }
+        ∷ flat (rowsFor (now (hashes .entry)) w (now (lengths .entry)) (now (rates .entry)) (now (sets .entry)))) ⌝ }
 {
     let n = lengths.len();
     rows::put_header(refs, n as u32, 0, p as u32, k as u32);
-    build_entries::put_rows(refs, hashes, w, lengths, rates);
+    build_entries::put_rows(refs, hashes, w, lengths, rates, sets);
     slices::clear_from(refs, rows::HEAD_WIDTH + rows::ROW_WIDTH * n);
 }
 
@@ -151,17 +174,27 @@ pub fn build(
     rates: &[u32],
     w: usize,
     limit: u32,
+    sets: &[u32],
 ) -> Building
     requires { ⌜ (3 ≤ w) × (w ≤ 5) ⌝ }
     ensures { λ r. ⌜ (buildingAnswer r, lent (refs .exit) (posts .exit) (stops .exit))
-        ≡ runBuild w (lent (refs .entry) (posts .entry) (stops .entry)) limit (now (hashes .entry)) (now (lengths .entry)) (now (rates .entry)) ⌝ }
+        ≡ runBuild w (lent (refs .entry) (posts .entry) (stops .entry)) limit (now (hashes .entry)) (now (lengths .entry)) (now (rates .entry)) (now (sets .entry)) ⌝ }
 {
-    let n = refusal_of(refs, posts, stops, hashes, lengths, rates, w, limit);
+    let n = refusal_of(refs, posts, stops, hashes, lengths, rates, w, limit, sets);
     if n != 0 {
         return Building::Refused(n);
     }
     let m = hashes.len() / (w - 1);
     let left = put_postings(posts, stops, hashes, lengths, m, w, size(limit));
-    put_references(refs, hashes, w, lengths, rates, left.postings, left.stopped);
+    put_references(
+        refs,
+        hashes,
+        w,
+        lengths,
+        rates,
+        sets,
+        left.postings,
+        left.stopped,
+    );
     Building::Built
 }

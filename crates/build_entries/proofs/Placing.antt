@@ -13,13 +13,13 @@ use Rattle.lists.specs.Every.{count}
 use Rattle.lists.specs.Keys.{placeAll}
 use Rattle.lists.specs.Entries.{keyAt}
 use Rattle.lists.proofs.Tests.{test}
-use Rattle.lists.proofs.Keep.{keep-append, keep-one, keep-nil, keep-map, all-append, all-imp, all-at, all-map, all-both, map-same, map-map}
+use Rattle.lists.proofs.Keep.{keep-append, keep-one, keep-nil, keep-same, keep-map, all-append, all-imp, all-at, all-map, all-both, map-same, map-map}
 use Rattle.lists.proofs.Every.{count-none, count-suc}
 use Rattle.lists.proofs.Place.{all-placeAll}
 use Rattle.build_ranges.specs.Codes.{tabulate, ranksFrom, hashPlace, rankOf, hashCode, codes, inOrder, Fit}
 use Rattle.build_ranges.proofs.Sorts.{all-sort}
 use Rattle.build_ranges.proofs.Ranks.{rank-is, listed-none, listed-same, all-listed, map-listed, ranks-snoc, place-is, sum-none, sum-more, sum-take, ranks-small}
-use Rattle.build_ranges.proofs.Order.{ordered-is, keep-same}
+use Rattle.build_ranges.proofs.Order.{ordered-is}
 use Rattle.build_stops.proofs.Walk.{sum-few}
 use Rattle.build_sort.specs.Digits.{placeBy, keyBy, Readable, Ranks, Keyed}
 use Rattle.build_sort.proofs.Order.{placeAll-same}

@@ -2,7 +2,7 @@
 use mathlib.Core.Path.{_≡_, refl, ap, _∙_}
 use mathlib.Core.Logic.{_⊎_, inl, inr}
 use mathlib.Core.List.{List, [], _∷_, _++_, map, map-append, append-assoc, append-nil}
-use Prim.Native.Nat.{ℕ, suc, _+_, _*_, _-_, _≤_, _<_}
+use Prim.Native.Nat.{ℕ, zero, suc, _+_, _*_, _-_, _≤_, _<_}
 use native.Mathlib.Nat.{mul-zero, mul-suc, suc-mul, mul-le-mul-left}
 use native.Mathlib.Numerals.{add-one}
 use native.Mathlib.Omega.{arith}
@@ -21,7 +21,7 @@ use Rattle.build_entries.specs.Laid.{SameFrom, StartsTo}
 pub put-behind : (s : List ℕ) (at x : ℕ) (front : List ℕ) → at < length s → take at s ≡ front → take (at + 1) (set s at x) ≡ front ++ x ∷ []
 put-behind s at x front h e = rw (add-one at) (take-suc-set s at x h ∙ ap (λ l. l ++ x ∷ []) e)
 
--- ---- two and four words
+-- ---- two, four and five words
 
 pub put-two : (s : List ℕ) (at a b : ℕ) → at + 1 < length s → take (at + 2) (set (set s at a) (at + 1) b) ≡ take at s ++ a ∷ b ∷ []
 put-two s at a b h =
@@ -38,6 +38,21 @@ put-four s at a b c d h =
     let y : at + 2 + 2 ≡ at + 4 = omega arith in
     let p = put-two s₂ (at + 2) c d (omega (arith, l)) in
     rw (x, y) at p ∙ ap (λ m. m ++ c ∷ d ∷ []) (put-two s at a b (omega arith)) ∙ append-assoc (take at s) (a ∷ b ∷ []) (c ∷ d ∷ [])
+
+pub put-five : (s : List ℕ) (at a b c d e : ℕ) → at + 4 < length s
+    → take (at + 5) (set (set (set (set (set s at a) (at + 1) b) (at + 2) c) (at + 3) d) (at + 4) e) ≡ take at s ++ a ∷ b ∷ c ∷ d ∷ e ∷ []
+put-five s at a b c d e h =
+    let x : at + 5 ≡ at + 4 + 1 = omega arith in
+    rw x (put-behind (set (set (set (set s at a) (at + 1) b) (at + 2) c) (at + 3) d) (at + 4) e (take at s ++ a ∷ b ∷ c ∷ d ∷ []) (simp length-set h) (put-four s at a b c d (omega arith))
+    ∙ append-assoc (take at s) (a ∷ b ∷ c ∷ d ∷ []) (e ∷ []))
+
+-- stores at two places, in either order
+pub set-swap : (s : List ℕ) (i j a b : ℕ) → (i ≡ j → ⊥) → set (set s i a) j b ≡ set (set s j b) i a
+set-swap [] i j a b h = refl
+set-swap (x ∷ s) zero zero a b h = absurd (h refl)
+set-swap (x ∷ s) zero (suc j) a b h = refl
+set-swap (x ∷ s) (suc i) zero a b h = refl
+set-swap (x ∷ s) (suc i) (suc j) a b h = ap (λ l. x ∷ l) (set-swap s i j a b (λ e. h (ap suc e)))
 
 -- ---- numbers, one behind the other
 

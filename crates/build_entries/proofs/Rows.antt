@@ -5,16 +5,16 @@ use mathlib.Core.List.{List, [], _∷_, _++_, map}
 use Prim.Native.Nat.{ℕ, zero, suc, _+_, _*_, _-_, _/_, _≤_}
 use native.Mathlib.Nat.{mul-add, mul-comm, mul-div-cancel-left, le-div-iff-mul-le}
 use native.Mathlib.Omega.{arith}
-use lib.ListN.{length, take, drop, length-drop}
+use lib.ListN.{length, take, drop, set, length-drop}
 use lib.Seq.{drop-at, length-take-le}
 use Rattle.lists.specs.Entries.{entries}
 use Rattle.lists.proofs.Entries.{entries-append, entries-fewer, entries-take, length-entries}
 use Rattle.model.specs.Fingerprints.{hashOf, hashesOf, hashCount}
 use Rattle.model.specs.Rows.{hasRmax, largestAnchor, canonical, rowOf}
-use Rattle.model.specs.Words.{headWidth, rowWidth, rowPlace, atRate, atRmax, atLive, atVacant}
+use Rattle.model.specs.Words.{headWidth, rowWidth, rowPlace, atRate, atRmax, atLive, atVacant, atSet}
 use Rattle.rows.specs.References.{rowPut, entryPut}
 use Rattle.build_entries.specs.Laid.{rowFor}
-use Rattle.build_entries.proofs.Prefix.{put-four}
+use Rattle.build_entries.proofs.Prefix.{put-five, set-swap}
 
 take-map : {A B : Type 0} (f : A → B) (n : ℕ) (l : List A) → take n (map f l) ≡ map f (take n l)
 take-map f zero l = refl
@@ -61,18 +61,20 @@ module _ (words : List ℕ) (w start n : ℕ) (w2 : 2 ≤ w) (room : (w - 1) * (
       ∙ sym (ap (take n) (drop-map hashOf start (entries (w - 1) (hashCount w words) words)) ∙ take-map hashOf n (drop start (entries (w - 1) (hashCount w words) words)))
 
 -- the words of a row that is written whole
-pub row-laid : (rs : List ℕ) (i rate rmax : ℕ) → headWidth + rowWidth * (i + 1) ≤ length rs
-    → take (headWidth + rowWidth * (i + 1)) (entryPut (rowPut rs i rate rmax 1) i 0) ≡ take (headWidth + rowWidth * i) rs ++ rate ∷ rmax ∷ 1 ∷ 0 ∷ []
+pub row-laid : (rs : List ℕ) (i rate rmax s : ℕ) → headWidth + rowWidth * (i + 1) ≤ length rs
+    → take (headWidth + rowWidth * (i + 1)) (entryPut (rowPut rs i rate rmax 1 s) i 0) ≡ take (headWidth + rowWidth * i) rs ++ rate ∷ rmax ∷ 1 ∷ 0 ∷ s ∷ []
 unfolding rowPut entryPut
-row-laid rs i rate rmax h =
-    let z : headWidth + rowWidth * (i + 1) ≡ headWidth + rowWidth * i + 4 = omega arith in
+row-laid rs i rate rmax s h =
+    let z : headWidth + rowWidth * (i + 1) ≡ headWidth + rowWidth * i + rowWidth = omega arith in
     let a : rowPlace i atRate ≡ headWidth + rowWidth * i = omega arith in
-    let b : rowPlace i atRmax ≡ headWidth + rowWidth * i + 1 = omega arith in
-    let c : rowPlace i atLive ≡ headWidth + rowWidth * i + 2 = omega arith in
-    let d : rowPlace i atVacant ≡ headWidth + rowWidth * i + 3 = omega arith in
-    rw (z, a, b, c, d) (put-four rs (headWidth + rowWidth * i) rate rmax 1 0 (omega arith))
+    let b : rowPlace i atRmax ≡ headWidth + rowWidth * i + atRmax = omega arith in
+    let c : rowPlace i atLive ≡ headWidth + rowWidth * i + atLive = omega arith in
+    let d : rowPlace i atVacant ≡ headWidth + rowWidth * i + atVacant = omega arith in
+    let e : rowPlace i atSet ≡ headWidth + rowWidth * i + atSet = omega arith in
+    let at : ℕ = headWidth + rowWidth * i in
+    rw (z, a, b, c, d, e) (ap (take (at + rowWidth)) (set-swap (set (set (set rs at rate) (at + atRmax) rmax) (at + atLive) 1) (at + atSet) (at + atVacant) s 0 (λ q. omega arith)) ∙ put-five rs at rate rmax 1 0 s (omega arith))
 
-pub row-is : (words : List ℕ) (w start n rate start′ n′ rate′ rmax : ℕ) → rate′ ≡ canonical rate
-    → rmax ≡ cond (hasRmax w) (largestAnchor (take n′ (drop start′ (hashesOf w words)))) 0 → start′ ≡ start → n′ ≡ n → rate′ ∷ rmax ∷ 1 ∷ 0 ∷ [] ≡ rowFor words w start n rate
+pub row-is : (words : List ℕ) (w start n rate s start′ n′ rate′ rmax s′ : ℕ) → rate′ ≡ canonical rate
+    → rmax ≡ cond (hasRmax w) (largestAnchor (take n′ (drop start′ (hashesOf w words)))) 0 → s′ ≡ s → start′ ≡ start → n′ ≡ n → rate′ ∷ rmax ∷ 1 ∷ 0 ∷ s′ ∷ [] ≡ rowFor words w start n rate s
 unfolding rowFor rowOf
-row-is words w start n rate start′ n′ rate′ rmax er em es en = rw (er, em, es, en)
+row-is words w start n rate s start′ n′ rate′ rmax s′ er em eset es en = rw (er, em, eset, es, en)

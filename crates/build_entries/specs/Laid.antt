@@ -29,5 +29,5 @@ abbrev pub StartsTo : List ℕ → List ℕ → ℕ → Type 0
 StartsTo starts lengths i = (k : ℕ) → k < i → getD starts k 0 ≡ sum (take k lengths)
 
 -- the row of a recording with n hashes from `start` on
-unfoldable pub rowFor : List ℕ → ℕ → ℕ → ℕ → ℕ → List ℕ
-rowFor words w start n rate = rowWords (some (rowOf w (record { rate = rate; hashes = take n (drop start (hashesOf w words)) }))) 0
+unfoldable pub rowFor : List ℕ → ℕ → ℕ → ℕ → ℕ → ℕ → List ℕ
+rowFor words w start n rate set = rowWords (some (rowOf w (record { rate = rate; set = set; hashes = take n (drop start (hashesOf w words)) }))) 0

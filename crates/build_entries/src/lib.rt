@@ -96,36 +96,43 @@ pub fn lay_all(posts: &mut [u32], w: usize, hashes: &[u32], lengths: &[u32])
 }
 
 // The row of the recording whose n hashes stand from `start` on.
-fn part_row(hashes: &[u32], w: usize, start: usize, n: usize, rate: u32) -> Row
+fn part_row(hashes: &[u32], w: usize, start: usize, n: usize, rate: u32, set: u32) -> Row
     requires { ⌜ (3 ≤ w) × ((w - 1) * (start + n) ≤ length (now hashes)) ⌝ }
-    ensures { λ r. ⌜ (r .rate ≡ canonical rate) × (r .rmax ≡ cond (hasRmax w) (largestAnchor (take n (drop start (hashesOf w (now (hashes .entry)))))) 0) ⌝ }
+    ensures { λ r. ⌜ (r .rate ≡ canonical rate) × (r .rmax ≡ cond (hasRmax w) (largestAnchor (take n (drop start (hashesOf w (now (hashes .entry)))))) 0) × (r .set ≡ set) ⌝ }
 {
     let v = w - 1;
     let a = v * start;
     let e = v * (start + n);
-    rows::row_of(&hashes[a..e], w, rate)
+    rows::row_of(&hashes[a..e], w, rate, set)
 }
 
 // Row i, and no vacant entry in it.
 fn lay_row(refs: &mut [u32], i: usize, row: Row)
     requires { ⌜ headWidth + rowWidth * (i + 1) ≤ length (now refs) ⌝ }
-    ensures { λ _. ⌜ take (headWidth + rowWidth * (i + 1)) (now (refs .exit)) ≡ take (headWidth + rowWidth * i) (now (refs .entry)) ++ row .rate ∷ row .rmax ∷ 1 ∷ 0 ∷ [] ⌝ }
+    ensures { λ _. ⌜ take (headWidth + rowWidth * (i + 1)) (now (refs .exit)) ≡ take (headWidth + rowWidth * i) (now (refs .entry)) ++ row .rate ∷ row .rmax ∷ 1 ∷ 0 ∷ row .set ∷ [] ⌝ }
 {
     rows::put_row(refs, i, row, 1);
     rows::put_entry(refs, i, 0);
 }
 
 // The rows of all recordings.
-pub fn put_rows(refs: &mut [u32], hashes: &[u32], w: usize, lengths: &[u32], rates: &[u32])
-    requires { ⌜ (3 ≤ w) × (headWidth + rowWidth * length (now lengths) ≤ length (now refs)) × (length (now rates) ≡ length (now lengths)) × Fit (now hashes) (w - 1) (now lengths) ⌝ }
+pub fn put_rows(
+    refs: &mut [u32],
+    hashes: &[u32],
+    w: usize,
+    lengths: &[u32],
+    rates: &[u32],
+    sets: &[u32],
+)
+    requires { ⌜ (3 ≤ w) × (headWidth + rowWidth * length (now lengths) ≤ length (now refs)) × (length (now rates) ≡ length (now lengths)) × (length (now sets) ≡ length (now lengths)) × Fit (now hashes) (w - 1) (now lengths) ⌝ }
     ensures { λ _. ⌜ take (headWidth + rowWidth * length (now (lengths .entry))) (now (refs .exit)) ≡ take headWidth (now (refs .entry))
-        ++ flat (tabulate (λ i. rowFor (now (hashes .entry)) w (sum (take i (now (lengths .entry)))) (getD (now (lengths .entry)) i 0) (getD (now (rates .entry)) i 0)) (length (now (lengths .entry)))) ⌝ }
+        ++ flat (tabulate (λ i. rowFor (now (hashes .entry)) w (sum (take i (now (lengths .entry)))) (getD (now (lengths .entry)) i 0) (getD (now (rates .entry)) i 0) (getD (now (sets .entry)) i 0)) (length (now (lengths .entry)))) ⌝ }
 {
     let mut start = 0;
     let mut i = 0;
     while i < lengths.len() {
         let n = size(at(lengths, i));
-        let row = part_row(hashes, w, start, n, at(rates, i));
+        let row = part_row(hashes, w, start, n, at(rates, i), at(sets, i));
         lay_row(refs, i, row);
         start += n;
         i += 1;

@@ -41,8 +41,8 @@ inWordsWith s o = (answerWords (o .0), (o .1, scratchAfter (o .0) s))
 
 -- ---- a Wang query's settings, as words
 
-abbrev pub wangAsked : List ℕ → ℕ → ℕ → ℕ → ℕ → ℕ → ℕ → Query wang
-wangAsked hashes rate tolerance votes score prominence scratch = queryWith (configOf tolerance votes score prominence) (single rate) hashes scratch
+abbrev pub wangAsked : List ℕ → ℕ → ℕ → ℕ → ℕ → ℕ → ℕ → ℕ → Query wang
+wangAsked hashes rate tolerance votes score prominence set scratch = queryWith (configOf tolerance votes score prominence) (single rate) set hashes scratch
 
 -- ---- and a Panako query's
 
@@ -57,6 +57,6 @@ panakoConfig min max bins tolerance votes score prominence = record {
   «min_prominence» = single prominence;
 }
 
-abbrev pub panakoAsked : List ℕ → ℕ → ℕ → ℕ → ℕ → ℕ → ℕ → ℕ → ℕ → ℕ → Query panako
-panakoAsked hashes rate min max bins tolerance votes score prominence scratch =
-    of-panako.queryWith (panakoConfig min max bins tolerance votes score prominence) (single rate) hashes scratch
+abbrev pub panakoAsked : List ℕ → ℕ → ℕ → ℕ → ℕ → ℕ → ℕ → ℕ → ℕ → ℕ → ℕ → Query panako
+panakoAsked hashes rate min max bins tolerance votes score prominence set scratch =
+    of-panako.queryWith (panakoConfig min max bins tolerance votes score prominence) (single rate) set hashes scratch

@@ -126,15 +126,16 @@ pub extern "C" fn wang_index_build(
     lengths: &[u32],
     rates: &[u32],
     limit: u32,
+    sets: &[u32],
     answer: &mut [u64; 8],
 )
     ensures { λ _. ⌜ (now (answer .exit), lent (refs .exit) (postings .exit) (stopped .exit))
         ≡ inWords (run wang (lent (refs .entry) (postings .entry) (stopped .entry))
-        (build limit (now (hashes .entry)) (now (lengths .entry)) (now (rates .entry)))) ⌝ }
+        (build limit (now (hashes .entry)) (now (lengths .entry)) (now (rates .entry)) (now (sets .entry)))) ⌝ }
 {
     put_building(
         answer,
-        WangIndex::build(refs, postings, stopped, hashes, lengths, rates, limit),
+        WangIndex::build(refs, postings, stopped, hashes, lengths, rates, limit, sets),
     );
 }
 
@@ -146,14 +147,15 @@ pub extern "C" fn wang_index_insert(
     hashes: &[u32],
     rate: u32,
     limit: u32,
+    set: u32,
     answer: &mut [u64; 8],
 )
     ensures { λ _. ⌜ (now (answer .exit), lent (refs .exit) (postings .exit) (stopped .exit))
-        ≡ inWords (run wang (lent (refs .entry) (postings .entry) (stopped .entry)) (insert limit rate (now (hashes .entry)))) ⌝ }
+        ≡ inWords (run wang (lent (refs .entry) (postings .entry) (stopped .entry)) (insert limit rate set (now (hashes .entry)))) ⌝ }
 {
     put_insertion(
         answer,
-        WangIndex::insert(refs, postings, stopped, hashes, rate, limit),
+        WangIndex::insert(refs, postings, stopped, hashes, rate, limit, set),
     );
 }
 
@@ -196,17 +198,18 @@ pub extern "C" fn wang_index_query(
     min_votes: u32,
     min_score: u32,
     min_prominence: u32,
+    set: u32,
     answer: &mut [u64; 8],
 )
     ensures { λ _. ⌜ (now (answer .exit), (lent (refs .entry) (postings .entry) (stopped .entry), now (scratch .exit)))
         ≡ inWordsWith (now (scratch .entry)) (run wang (lent (refs .entry) (postings .entry) (stopped .entry))
-        (query (wangAsked (now (hashes .entry)) rate tolerance «min_votes» «min_score» «min_prominence» (length (now (scratch .entry)))))) ⌝ }
+        (query (wangAsked (now (hashes .entry)) rate tolerance «min_votes» «min_score» «min_prominence» set (length (now (scratch .entry)))))) ⌝ }
 {
     let cfg = wang_judge::config_of(tolerance, min_votes, min_score, min_prominence);
     let fps = floats::f32_from_bits(rate);
     put_finding(
         answer,
-        WangIndex::query(refs, postings, stopped, scratch, hashes, fps, cfg),
+        WangIndex::query(refs, postings, stopped, scratch, hashes, fps, cfg, set),
     );
 }
 
@@ -219,15 +222,16 @@ pub extern "C" fn panako_index_build(
     lengths: &[u32],
     rates: &[u32],
     limit: u32,
+    sets: &[u32],
     answer: &mut [u64; 8],
 )
     ensures { λ _. ⌜ (now (answer .exit), lent (refs .exit) (postings .exit) (stopped .exit))
         ≡ inWords (run panako (lent (refs .entry) (postings .entry) (stopped .entry))
-        (build limit (now (hashes .entry)) (now (lengths .entry)) (now (rates .entry)))) ⌝ }
+        (build limit (now (hashes .entry)) (now (lengths .entry)) (now (rates .entry)) (now (sets .entry)))) ⌝ }
 {
     put_building(
         answer,
-        PanakoIndex::build(refs, postings, stopped, hashes, lengths, rates, limit),
+        PanakoIndex::build(refs, postings, stopped, hashes, lengths, rates, limit, sets),
     );
 }
 
@@ -239,14 +243,15 @@ pub extern "C" fn panako_index_insert(
     hashes: &[u32],
     rate: u32,
     limit: u32,
+    set: u32,
     answer: &mut [u64; 8],
 )
     ensures { λ _. ⌜ (now (answer .exit), lent (refs .exit) (postings .exit) (stopped .exit))
-        ≡ inWords (run panako (lent (refs .entry) (postings .entry) (stopped .entry)) (insert limit rate (now (hashes .entry)))) ⌝ }
+        ≡ inWords (run panako (lent (refs .entry) (postings .entry) (stopped .entry)) (insert limit rate set (now (hashes .entry)))) ⌝ }
 {
     put_insertion(
         answer,
-        PanakoIndex::insert(refs, postings, stopped, hashes, rate, limit),
+        PanakoIndex::insert(refs, postings, stopped, hashes, rate, limit, set),
     );
 }
 
@@ -315,12 +320,13 @@ pub extern "C" fn panako_index_query(
     min_votes: u32,
     min_score: u32,
     min_prominence: u32,
+    set: u32,
     answer: &mut [u64; 8],
 )
     ensures { λ _. ⌜ (now (answer .exit), (lent (refs .entry) (postings .entry) (stopped .entry), now (scratch .exit)))
         ≡ inWordsWith (now (scratch .entry)) (run panako (lent (refs .entry) (postings .entry) (stopped .entry))
         (query (panakoAsked (now (hashes .entry)) rate «scale_min» «scale_max» «scale_bins»
-        tolerance «min_votes» «min_score» «min_prominence» (length (now (scratch .entry)))))) ⌝ }
+        tolerance «min_votes» «min_score» «min_prominence» set (length (now (scratch .entry)))))) ⌝ }
 {
     let cfg = panako_config(
         scale_min,
@@ -334,6 +340,6 @@ pub extern "C" fn panako_index_query(
     let fps = floats::f32_from_bits(rate);
     put_finding(
         answer,
-        PanakoIndex::query(refs, postings, stopped, scratch, hashes, fps, cfg),
+        PanakoIndex::query(refs, postings, stopped, scratch, hashes, fps, cfg, set),
     );
 }

@@ -101,10 +101,10 @@ storedIds (best id r) = []
 storedIds nothing = []
 storedIds (refused n) = []
 
--- each recording is one without hashes
+-- each recording is one without hashes, of set 1
 unfoldable pub idsGiven : ℕ → Words → List (Option ℕ) → List ℕ
 idsGiven w m [] = []
-idsGiven w m (none ∷ calls) = let o = runInsert w m 100 0 [] in storedIds (o .0) ++ idsGiven w (o .1) calls
+idsGiven w m (none ∷ calls) = let o = runInsert w m 100 0 1 [] in storedIds (o .0) ++ idsGiven w (o .1) calls
 idsGiven w m (some id ∷ calls) = idsGiven w (runRemove w m id .1) calls
 
 -- where a posting has w words

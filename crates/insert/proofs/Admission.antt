@@ -174,12 +174,12 @@ positive : (a : ℕ) → (a ≡ 0 → ⊥) → 0 < a
 positive zero h = absurd (h refl)
 positive (suc a) h = omega arith
 
-recorded-same : (rs rs′ : List ℕ) (n n′ v v′ id rate rmax p p′ k k′ : ℕ) → rs ≡ rs′ → n ≡ n′ → v ≡ v′ → p ≡ p′ → k ≡ k′ → recorded rs n v id rate rmax p k ≡ recorded rs′ n′ v′ id rate rmax p′ k′
-recorded-same rs rs′ n n′ v v′ id rate rmax p p′ k k′ a b c d e = cc
+recorded-same : (rs rs′ : List ℕ) (n n′ v v′ id rate rmax set p p′ k k′ : ℕ) → rs ≡ rs′ → n ≡ n′ → v ≡ v′ → p ≡ p′ → k ≡ k′ → recorded rs n v id rate rmax set p k ≡ recorded rs′ n′ v′ id rate rmax set p′ k′
+recorded-same rs rs′ n n′ v v′ id rate rmax set p p′ k k′ a b c d e = cc
 
 -- ---- what is found of the new hashes
 
-module _ (w : ℕ) (m : Words) (hashes : List ℕ) (D : Ready w m hashes) (limit rate : ℕ) (count : ℕ)
+module _ (w : ℕ) (m : Words) (hashes : List ℕ) (set : ℕ) (D : Ready w m hashes set) (limit rate : ℕ) (count : ℕ)
     (many : count ≡ length (taken (w - 1) hashes (take (getD (m .references) 3 0) (m .stopped)) (hashCount w hashes))) where
   w2 : 2 ≤ w
   w2 = omega (arith, D .wide)
@@ -233,8 +233,8 @@ module _ (w : ℕ) (m : Words) (hashes : List ℕ) (D : Ready w m hashes) (limit
       rw (postings-many w m w2 l s, e)
 
   -- where the postings do not fit
-  pub refused-postings : length (m .postings) / w < getD (m .references) 2 0 + count → runInsert w m limit rate hashes ≡ (refused 6, m)
-  refused-postings more = refused-6 w m limit rate hashes w2 l s (D .formed) (full-is w m w2 l s ∙ D .row-left) (six-is ∙ lt-ltb (length (m .postings) / w) (p + count) more)
+  pub refused-postings : length (m .postings) / w < getD (m .references) 2 0 + count → runInsert w m limit rate set hashes ≡ (refused 6, m)
+  refused-postings more = refused-6 w m limit rate set hashes w2 l s (D .formed) (D .of-set) (full-is w m w2 l s ∙ D .row-left) (six-is ∙ lt-ltb (length (m .postings) / w) (p + count) more)
 
   module _ (order : List ℤ) (held : take count order ≡ packs (w - 1) hashes (ordered (w - 1) hashes (take (getD (m .references) 3 0) (m .stopped)) (hashCount w hashes))) (room : count ≤ length order) where
     module _ (overs : List ℕ) (n : ℕ) (n-in : n ≤ length overs) (over : OverKeys limit (oldKeys w (getD (m .references) 2 0) (m .postings)) (keysIn count order) (take n overs)) where
@@ -290,27 +290,27 @@ module _ (w : ℕ) (m : Words) (hashes : List ℕ) (D : Ready w m hashes) (limit
           let b : getD rs 0 0 ≤ (length rs - headWidth) / rowWidth = R .rows-fit in
           omega (arith, rows-many w m w2 l s, eqb-false (getD rs 0 0) ((length rs - headWidth) / rowWidth) f)
 
-      references-left : recorded (m .references) (getD (m .references) 0 0) (getD (m .references) 1 0) (idIn (m .references)) (canonical rate) (cond (hasRmax w) (largestAnchor (hashesOf w hashes)) 0)
+      references-left : recorded (m .references) (getD (m .references) 0 0) (getD (m .references) 1 0) (idIn (m .references)) (canonical rate) (cond (hasRmax w) (largestAnchor (hashesOf w hashes)) 0) set
           (length (postingsIn w (m .references) (m .postings) hashes order count overs n)) (getD (m .references) 3 0 + n)
-          ≡ write w (sizesOf w m) (inserted w limit (fingerprintOf w rate hashes) (readIndex w m)) .references
+          ≡ write w (sizesOf w m) (inserted w limit (fingerprintOf w rate set hashes) (readIndex w m)) .references
       unfolding inserted rowOf
       references-left =
           let z = sizesOf w m in
-          let y = inserted w limit (fingerprintOf w rate hashes) x in
-          recorded-same (m .references) (write w z x .references) (getD rs 0 0) (length (x .rows)) (getD rs 1 0) (length (x .vacant)) (idIn rs) (canonical rate) (cond (hasRmax w) (largestAnchor (hashesOf w hashes)) 0)
+          let y = inserted w limit (fingerprintOf w rate set hashes) x in
+          recorded-same (m .references) (write w z x .references) (getD rs 0 0) (length (x .rows)) (getD rs 1 0) (length (x .vacant)) (idIn rs) (canonical rate) (cond (hasRmax w) (largestAnchor (hashesOf w hashes)) 0) set
           (length (postingsIn w rs (m .postings) hashes order count overs n)) (length (y .postings)) (k + n) (length (y .stopped))
           (ap (λ (u : Words). u .references) (sym (sound-again w m w2 l s))) (sym (rows-many w m w2 l s)) (sym (vacant-many w m w2 l s)) postings-count (sym stopped-count)
-          ∙ recorded-is w z x y (rowOf w (fingerprintOf w rate hashes)) (snd .rows-fit) (fewer w z x w2 snd) row-inside row-left refl refl (idIn rs) (id-is w m w2 l s)
+          ∙ recorded-is w z x y (rowOf w (fingerprintOf w rate set hashes)) (snd .rows-fit) (fewer w z x w2 snd) row-inside row-left refl refl (idIn rs) (id-is w m w2 l s)
 
       postings-words : padded (length (m .postings)) (flat (postingsIn w (m .references) (m .postings) hashes order count overs n))
-          ≡ write w (sizesOf w m) (inserted w limit (fingerprintOf w rate hashes) (readIndex w m)) .postings
+          ≡ write w (sizesOf w m) (inserted w limit (fingerprintOf w rate set hashes) (readIndex w m)) .postings
       unfolding write inserted
       postings-words =
           ap (λ (a : List (List ℕ)). padded (length (m .postings)) (flat a)) postings-left
           ∙ ap (λ (a : ℕ). padded a (flat (map postingWords (postingsAfter limit x (posted (newId x) (hashesOf w hashes)))))) (postings-long w m w2 l)
 
       stopped-words : padded (length (m .stopped)) (placeAll (λ y. y) (take n overs) (take (getD (m .references) 3 0) (m .stopped)))
-          ≡ write w (sizesOf w m) (inserted w limit (fingerprintOf w rate hashes) (readIndex w m)) .stopped
+          ≡ write w (sizesOf w m) (inserted w limit (fingerprintOf w rate set hashes) (readIndex w m)) .stopped
       unfolding write inserted sizesOf
       stopped-words = ap (padded (length (m .stopped))) stopped-left
 
@@ -353,20 +353,20 @@ module _ (w : ℕ) (m : Words) (hashes : List ℕ) (D : Ready w m hashes) (limit
         full-not : eqb (length (readIndex w m .vacant)) 0 && eqb (length (readIndex w m .rows)) (sizesOf w m .R) ≡ false
         full-not = full-is w m w2 l s ∙ D .row-left
 
-        stored-run : runInsert w m limit rate hashes ≡ (stored (newId (readIndex w m)), write w (sizesOf w m) (inserted w limit (fingerprintOf w rate hashes) (readIndex w m)))
-        stored-run = accepted-is w m limit rate hashes w2 l s (D .formed) full-not (six-is ∙ le-ltb (length (m .postings) / w) (p + count) fits) (seven-is ∙ le-ltb (length (m .stopped)) (k + n) keys-fit)
+        stored-run : runInsert w m limit rate set hashes ≡ (stored (newId (readIndex w m)), write w (sizesOf w m) (inserted w limit (fingerprintOf w rate set hashes) (readIndex w m)))
+        stored-run = accepted-is w m limit rate set hashes w2 l s (D .formed) (D .of-set) full-not (six-is ∙ le-ltb (length (m .postings) / w) (p + count) fits) (seven-is ∙ le-ltb (length (m .stopped)) (k + n) keys-fit)
 
         -- a recording that is written
         pub stored-is : (id : ℕ) (rs′ ps′ ss′ : List ℕ) → id ≡ idIn (m .references)
             → rs′ ≡ recorded (m .references) (getD (m .references) 0 0) (getD (m .references) 1 0) (idIn (m .references)) (canonical rate)
-            (cond (hasRmax w) (largestAnchor (hashesOf w hashes)) 0) (length (postingsIn w (m .references) (m .postings) hashes order count overs n)) (getD (m .references) 3 0 + n)
+            (cond (hasRmax w) (largestAnchor (hashesOf w hashes)) 0) set (length (postingsIn w (m .references) (m .postings) hashes order count overs n)) (getD (m .references) 3 0 + n)
             → ps′ ≡ padded (length (m .postings)) (flat (postingsIn w (m .references) (m .postings) hashes order count overs n))
             → ss′ ≡ padded (length (m .stopped)) (placeAll (λ y. y) (take n overs) (take (getD (m .references) 3 0) (m .stopped)))
-            → (stored id, words rs′ ps′ ss′) ≡ runInsert w m limit rate hashes
+            → (stored id, words rs′ ps′ ss′) ≡ runInsert w m limit rate set hashes
         stored-is id rs′ ps′ ss′ e er ep es =
             (λ i. (stored ((e ∙ id-is w m w2 l s) i), words ((er ∙ references-left) i) ((ep ∙ postings-words) i) ((es ∙ stopped-words) i))) ∙ sym stored-run
 
       -- where the keys do not fit
-      pub refused-keys : getD (m .references) 2 0 + count ≤ length (m .postings) / w → length (m .stopped) < getD (m .references) 3 0 + n → runInsert w m limit rate hashes ≡ (refused 7, m)
-      refused-keys fits more = refused-7 w m limit rate hashes w2 l s (D .formed) (full-is w m w2 l s ∙ D .row-left)
+      pub refused-keys : getD (m .references) 2 0 + count ≤ length (m .postings) / w → length (m .stopped) < getD (m .references) 3 0 + n → runInsert w m limit rate set hashes ≡ (refused 7, m)
+      refused-keys fits more = refused-7 w m limit rate set hashes w2 l s (D .formed) (D .of-set) (full-is w m w2 l s ∙ D .row-left)
           (six-is ∙ le-ltb (length (m .postings) / w) (p + count) fits) (seven-is ∙ lt-ltb (length (m .stopped)) (k + n) more)

@@ -24,7 +24,7 @@ use Rattle.model.specs.Run.{runInsert}
 use Rattle.insert.specs.Insert.{Ready}
 use Rattle.insert.proofs.Admission.{Room, rooms, few-hashes, hashes-in, few-taken, refused-postings, refused-keys, writable, stored-is}
 
-module _ (w : ℕ) (rs ps ss hashes : List ℕ) (limit rate : ℕ) (D : Ready w (words rs ps ss) hashes) where
+module _ (w : ℕ) (rs ps ss hashes : List ℕ) (limit rate set : ℕ) (D : Ready w (words rs ps ss) hashes set) where
   abbrev m : Words
   m = words rs ps ss
 
@@ -69,8 +69,8 @@ module _ (w : ℕ) (rs ps ss hashes : List ℕ) (limit rate : ℕ) (D : Ready w 
       pub postings-sum : h .postings + count < 2 ^ 32
       postings-sum = omega (arith, few-new, c .postings, R .postings-fit, R .postings-few)
 
-      pub refused-six : length ps / w < h .postings + count → runInsert w (words rs ps ss) limit rate hashes ≡ (refused 6, words rs ps ss)
-      refused-six more = refused-postings w m hashes D limit rate count many-read (rw (c .postings) at more)
+      pub refused-six : length ps / w < h .postings + count → runInsert w (words rs ps ss) limit rate set hashes ≡ (refused 6, words rs ps ss)
+      refused-six more = refused-postings w m hashes set D limit rate count many-read (rw (c .postings) at more)
 
       module _ (order₀ order : List ℤ) (held : take count order₀ ≡ packs (w - 1) hashes (taken (w - 1) hashes (take (h .stopped) ss) (length hashes / (w - 1))))
           (sorted : take count order ≡ sortZ (take count order₀)) (long : length order ≡ 16384) where
@@ -103,20 +103,20 @@ module _ (w : ℕ) (rs ps ss hashes : List ℕ) (limit rate : ℕ) (D : Ready w 
             fits-read : getD rs 2 0 + count ≤ length ps / w
             fits-read = rw (c .postings) at fits
 
-            pub refused-seven : length ss < h .stopped + n → runInsert w (words rs ps ss) limit rate hashes ≡ (refused 7, words rs ps ss)
-            refused-seven more = refused-keys w m hashes D limit rate count many-read order held-read room overs n n-in over-read fits-read (rw (c .stopped) at more)
+            pub refused-seven : length ss < h .stopped + n → runInsert w (words rs ps ss) limit rate set hashes ≡ (refused 7, words rs ps ss)
+            refused-seven more = refused-keys w m hashes set D limit rate count many-read order held-read room overs n n-in over-read fits-read (rw (c .stopped) at more)
 
             module _ (keys-fit : h .stopped + n ≤ length ss) where
               keys-read : getD rs 3 0 + n ≤ length ss
               keys-read = rw (c .stopped) at keys-fit
 
               pub may-write : Writable w rs ps ss hashes order count overs n
-              may-write = writable w m hashes D limit rate count many-read order held-read room overs n n-in over-read fits-read keys-read
+              may-write = writable w m hashes set D limit rate count many-read order held-read room overs n n-in over-read fits-read keys-read
 
               pub stores : (id : ℕ) (rs′ ps′ ss′ : List ℕ) → id ≡ idIn rs
-                  → rs′ ≡ recorded rs (getD rs 0 0) (getD rs 1 0) (idIn rs) (canonical rate) (cond (hasRmax w) (largestAnchor (hashesOf w hashes)) 0)
+                  → rs′ ≡ recorded rs (getD rs 0 0) (getD rs 1 0) (idIn rs) (canonical rate) (cond (hasRmax w) (largestAnchor (hashesOf w hashes)) 0) set
                   (length (postingsIn w rs ps hashes order count overs n)) (getD rs 3 0 + n)
                   → ps′ ≡ padded (length ps) (flat (postingsIn w rs ps hashes order count overs n))
                   → ss′ ≡ padded (length ss) (placeAll (λ y. y) (take n overs) (take (getD rs 3 0) ss))
-                  → (stored id, words rs′ ps′ ss′) ≡ runInsert w (words rs ps ss) limit rate hashes
-              stores = stored-is w m hashes D limit rate count many-read order held-read room overs n n-in over-read fits-read keys-read
+                  → (stored id, words rs′ ps′ ss′) ≡ runInsert w (words rs ps ss) limit rate set hashes
+              stores = stored-is w m hashes set D limit rate count many-read order held-read room overs n n-in over-read fits-read keys-read

@@ -4,7 +4,7 @@ use mathlib.Core.List.{List, [], _∷_, _++_, append-assoc}
 use mathlib.Core.Option.{Option, none, some}
 use Prim.Native.Nat.{ℕ, zero, suc, _+_, _*_, _-_, _≤_, _<_}
 use native.Mathlib.Omega.{arith}
-use lib.ListN.{length, getD, take, set, replicate, length-append, length-set}
+use lib.ListN.{length, getD, take, set, replicate, length-append, length-set, replicate-append-replicate}
 use lib.Seq.{length-take-le, set-at, getD-at}
 use lib.Dec.{eqb}
 use borrow.Author.Tests.{eq-eqb, ne-eqb, eqb-true, eqb-false}
@@ -57,13 +57,14 @@ none-left : (l : List ℕ) → length l ≡ 0 → l ≡ []
 none-left [] h = refl
 none-left (x ∷ l) h = absurd (omega arith)
 
-blank-row : (n v p k : ℕ) (es : List (List ℕ)) (a : ℕ) → headed n v p k es (replicate (rowWidth * suc a) 0) ≡ headed n v p k (es ++ (0 ∷ 0 ∷ 0 ∷ 0 ∷ []) ∷ []) (replicate (rowWidth * a) 0)
+blank-row : (n v p k : ℕ) (es : List (List ℕ)) (a : ℕ) → headed n v p k es (replicate (rowWidth * suc a) 0) ≡ headed n v p k (es ++ replicate rowWidth 0 ∷ []) (replicate (rowWidth * a) 0)
 unfolding headed
 blank-row n v p k es a =
-    let e : rowWidth * suc a ≡ suc (suc (suc (suc (rowWidth * a)))) = omega arith in
-    let blank : List ℕ = 0 ∷ 0 ∷ 0 ∷ 0 ∷ [] in
+    let e : rowWidth * suc a ≡ rowWidth + rowWidth * a = omega arith in
+    let blank : List ℕ = replicate rowWidth 0 in
+    let zeros : replicate (rowWidth * suc a) 0 ≡ blank ++ replicate (rowWidth * a) 0 = rw e (sym (replicate-append-replicate rowWidth (rowWidth * a) 0)) in
     let f : flat (es ++ blank ∷ []) ≡ flat es ++ blank = flat-append es (blank ∷ []) ∙ ap (λ (l : List ℕ). flat es ++ l) (flat-one blank) in
-    ap (λ (l : List ℕ). n ∷ v ∷ p ∷ k ∷ l) (rw (e, f) (sym (append-assoc (flat es) blank (replicate (rowWidth * a) 0))))
+    ap (λ (l : List ℕ). n ∷ v ∷ p ∷ k ∷ l) (rw (zeros, f) (sym (append-assoc (flat es) blank (replicate (rowWidth * a) 0))))
 
 -- ---- an index with one recording more
 
@@ -76,50 +77,50 @@ module _ (rs : List (Option Row)) (vs : List ℕ) (r : Row) (R p k p′ k′ : �
 
   -- at a vacant id
   reused : (id : ℕ) → 0 < length vs → id < length rs
-      → headerPut (rowPut (entryPut (headed (length rs) (length vs) p k (rowEntries rs vs) (replicate (rowWidth * (R - length rs)) 0)) (length vs - 1) 0) id (r .rate) (r .rmax) 1) (length rs) (length vs - 1) p′ k′
+      → headerPut (rowPut (entryPut (headed (length rs) (length vs) p k (rowEntries rs vs) (replicate (rowWidth * (R - length rs)) 0)) (length vs - 1) 0) id (r .rate) (r .rmax) 1 (r .set)) (length rs) (length vs - 1) p′ k′
       ≡ headed (length rs) (length vs - 1) p′ k′ (rowEntries (set rs id (some r)) (popped vs)) (replicate (rowWidth * (R - length rs)) 0)
   reused id some-left inside =
       let rest : List ℕ = replicate (rowWidth * (R - n)) 0 in
       let es = rowEntries rs vs in
       let es1 = rowEntries rs (popped vs) in
       let l1 : length es1 ≡ n = length-rows rs (popped vs) in
-      ap (λ (m : List ℕ). headerPut (rowPut m id (r .rate) (r .rmax) 1) n (v - 1) p′ k′)
+      ap (λ (m : List ℕ). headerPut (rowPut m id (r .rate) (r .rmax) 1 (r .set)) n (v - 1) p′ k′)
       (entry-headed n v p k es rest (v - 1) 0 (wide-rows rs vs) (omega (arith, length-rows rs vs))
       ∙ ap (λ (m : List (List ℕ)). headed n v p k m rest) (vacant-less rs vs (v - 1) (omega arith) fewer))
       ∙ ap (λ (m : List ℕ). headerPut m n (v - 1) p′ k′)
-      (row-headed n v p k es1 rest id (r .rate) (r .rmax) 1 (wide-rows rs (popped vs)) (omega (arith, l1))
-      ∙ ap (λ (e : ℕ). headed n v p k (set es1 id (r .rate ∷ r .rmax ∷ 1 ∷ e ∷ [])) rest)
+      (row-headed n v p k es1 rest id (r .rate) (r .rmax) 1 (r .set) (wide-rows rs (popped vs)) (omega (arith, l1))
+      ∙ ap (λ (e : ℕ). headed n v p k (set es1 id (r .rate ∷ r .rmax ∷ 1 ∷ e ∷ r .set ∷ [])) rest)
       (ap (λ (m : List ℕ). getD m atVacant 0) (row-at rs (popped vs) id inside) ∙ entry-word-is (getD rs id none) (getD (popped vs) id 0))
       ∙ ap (λ (m : List (List ℕ)). headed n v p k m rest) (sym (rows-set rs (popped vs) id (some r))))
       ∙ header-headed n v p k (rowEntries (set rs id (some r)) (popped vs)) rest n (v - 1) p′ k′
 
   -- or at the next one
   appended : length vs ≡ 0 → length rs < R
-      → headerPut (rowPut (headed (length rs) (length vs) p k (rowEntries rs vs) (replicate (rowWidth * (R - length rs)) 0)) (length rs) (r .rate) (r .rmax) 1) (length rs + 1) 0 p′ k′
+      → headerPut (rowPut (headed (length rs) (length vs) p k (rowEntries rs vs) (replicate (rowWidth * (R - length rs)) 0)) (length rs) (r .rate) (r .rmax) 1 (r .set)) (length rs + 1) 0 p′ k′
       ≡ headed (length rs + 1) 0 p′ k′ (rowEntries (rs ++ some r ∷ []) (popped vs)) (replicate (rowWidth * (R - (length rs + 1))) 0)
   appended none-vacant room =
       let e = none-left vs none-vacant in
       let a : R - n ≡ suc (R - (n + 1)) = omega arith in
       let es = rowEntries rs [] in
-      let blank : List ℕ = 0 ∷ 0 ∷ 0 ∷ 0 ∷ [] in
+      let blank : List ℕ = replicate rowWidth 0 in
       let rest : List ℕ = replicate (rowWidth * (R - (n + 1))) 0 in
       let l : length es ≡ n = length-rows rs [] in
       let long : length (es ++ blank ∷ []) ≡ n + 1 = rw (length-append, l) (omega arith) in
       let wide : Wide rowWidth (es ++ blank ∷ []) = all-append (λ (e : List ℕ). length e ≡ rowWidth) es (blank ∷ []) (wide-rows rs []) (refl, tt) in
       rw (e, a) (
-      ap (λ (m : List ℕ). headerPut (rowPut m n (r .rate) (r .rmax) 1) (n + 1) 0 p′ k′) (blank-row n 0 p k es (R - (n + 1)))
+      ap (λ (m : List ℕ). headerPut (rowPut m n (r .rate) (r .rmax) 1 (r .set)) (n + 1) 0 p′ k′) (blank-row n 0 p k es (R - (n + 1)))
       ∙ ap (λ (m : List ℕ). headerPut m (n + 1) 0 p′ k′)
-      (row-headed n 0 p k (es ++ blank ∷ []) rest n (r .rate) (r .rmax) 1 wide (omega arith)
+      (row-headed n 0 p k (es ++ blank ∷ []) rest n (r .rate) (r .rmax) 1 (r .set) wide (omega arith)
       ∙ ap (λ (m : List (List ℕ)). headed n 0 p k m rest)
-      (ap (λ (y : List ℕ). set (es ++ blank ∷ []) n (r .rate ∷ r .rmax ∷ 1 ∷ getD y atVacant 0 ∷ [])) (getD-at es blank [] [] n l)
-      ∙ set-at es blank [] (r .rate ∷ r .rmax ∷ 1 ∷ 0 ∷ []) n l ∙ sym (rows-snoc rs (some r))))
+      (ap (λ (y : List ℕ). set (es ++ blank ∷ []) n (r .rate ∷ r .rmax ∷ 1 ∷ getD y atVacant 0 ∷ r .set ∷ [])) (getD-at es blank [] [] n l)
+      ∙ set-at es blank [] (r .rate ∷ r .rmax ∷ 1 ∷ 0 ∷ r .set ∷ []) n l ∙ sym (rows-snoc rs (some r))))
       ∙ header-headed n 0 p k (rowEntries (rs ++ some r ∷ []) []) rest (n + 1) 0 p′ k′)
 
 -- what is recorded is an index with the row put and the vacant id gone
 module _ (w : ℕ) (z : Sizes) (x y : Index) (r : Row) (fit : length (x .rows) ≤ z .R) (fewer : length (x .vacant) ≤ length (x .rows))
     (inside : 0 < length (x .vacant) → newId x < length (x .rows)) (room : length (x .vacant) ≡ 0 → length (x .rows) < z .R)
     (rows : y .rows ≡ putRow (x .rows) (newId x) r) (vacant : y .vacant ≡ popped (x .vacant)) where
-  pub recorded-is : (id : ℕ) → id ≡ newId x → recorded (write w z x .references) (length (x .rows)) (length (x .vacant)) id (r .rate) (r .rmax) (length (y .postings)) (length (y .stopped)) ≡ write w z y .references
+  pub recorded-is : (id : ℕ) → id ≡ newId x → recorded (write w z x .references) (length (x .rows)) (length (x .vacant)) id (r .rate) (r .rmax) (r .set) (length (y .postings)) (length (y .stopped)) ≡ write w z y .references
   unfolding recorded
   recorded-is id is =
       let n = length (x .rows) in

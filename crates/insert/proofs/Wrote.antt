@@ -18,9 +18,9 @@ use Rattle.insert.proofs.Placed.{placed-few}
 pub id-from : (rs : List ℕ) (h : Counts) (r : ℕ) → CountsOf rs h → r ≡ cond (eqb (h .vacant) 0) (h .rows) (rowWord rs (h .vacant - 1) atVacant) → r ≡ idIn rs
 id-from rs h r c e = rw (c .vacant, c .rows) at e
 
-pub recorded-all : (rs : List ℕ) (n n′ v v′ id id′ rate rate′ rmax rmax′ p p′ k k′ : ℕ) → n ≡ n′ → v ≡ v′ → id ≡ id′ → rate ≡ rate′ → rmax ≡ rmax′ → p ≡ p′ → k ≡ k′
-    → recorded rs n v id rate rmax p k ≡ recorded rs n′ v′ id′ rate′ rmax′ p′ k′
-recorded-all rs n n′ v v′ id id′ rate rate′ rmax rmax′ p p′ k k′ a b c d e f g = cc
+pub recorded-all : (rs : List ℕ) (n n′ v v′ id id′ rate rate′ rmax rmax′ set set′ p p′ k k′ : ℕ) → n ≡ n′ → v ≡ v′ → id ≡ id′ → rate ≡ rate′ → rmax ≡ rmax′ → set ≡ set′ → p ≡ p′ → k ≡ k′
+    → recorded rs n v id rate rmax set p k ≡ recorded rs n′ v′ id′ rate′ rmax′ set′ p′ k′
+recorded-all rs n n′ v v′ id id′ rate rate′ rmax rmax′ set set′ p p′ k k′ a b c d e f g h = cc
 
 module _ (w : ℕ) (rs ps ss words : List ℕ) (order : List ℤ) (m : ℕ) (overs : List ℕ) (n : ℕ) (W : Writable w rs ps ss words order m overs n) (h : Counts) (c : CountsOf rs h) where
   pub placing-from : Placing w (h .postings) ps words order m overs n

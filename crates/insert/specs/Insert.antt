@@ -6,6 +6,7 @@ use Prim.Native.Nat.{ℕ, _-_, _/_, _≤_}
 use lib.ListN.{length, getD}
 use lib.Dec.{eqb}
 use Rattle.model.specs.Fingerprints.{malformed, referenceMost}
+use Rattle.model.specs.Rows.{isSet}
 use Rattle.model.specs.Calls.{Answer, stored, refused}
 use Rattle.model.specs.Words.{Words, slicesListed, headWidth, rowWidth}
 use Rattle.model.specs.Soundness.{soundWords}
@@ -21,11 +22,12 @@ insertionAnswer (Stored id) = stored id
 unfoldable pub noRow : List ℕ → Bool
 noRow rs = eqb (getD rs 1 0) 0 && eqb (getD rs 0 0) ((length rs - headWidth) / rowWidth)
 
--- refusals 1, 2, 3 and 5 do not apply
-pub record Ready (w : ℕ) (m : Words) (hashes : List ℕ) : Type 0 where
+-- refusals 1, 2, 3, 9 and 5 do not apply
+pub record Ready (w : ℕ) (m : Words) (hashes : List ℕ) (set : ℕ) : Type 0 where
   pub wide : 3 ≤ w
   pub narrow : w ≤ 5
   pub is-listed : slicesListed w m ≡ true
   pub is-sound : soundWords w m ≡ true
   pub formed : malformed w referenceMost hashes ≡ false
+  pub of-set : isSet set ≡ true
   pub row-left : noRow (m .references) ≡ false

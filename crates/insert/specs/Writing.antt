@@ -40,11 +40,11 @@ pub record Stopping (ss : List ℕ) (k : ℕ) (overs : List ℕ) (n : ℕ) : Typ
   pub overs-ascend : Ascending (λ x. x) (take n overs)
 
 -- a row and the header anew; where an id was vacant, its entry goes
-unfoldable pub recorded : List ℕ → ℕ → ℕ → ℕ → ℕ → ℕ → ℕ → ℕ → List ℕ
-recorded rs n v id rate rmax p k =
+unfoldable pub recorded : List ℕ → ℕ → ℕ → ℕ → ℕ → ℕ → ℕ → ℕ → ℕ → List ℕ
+recorded rs n v id rate rmax set p k =
     cond (eqb v 0)
-    (headerPut (rowPut rs id rate rmax 1) (n + 1) 0 p k)
-    (headerPut (rowPut (entryPut rs (v - 1) 0) id rate rmax 1) n (v - 1) p k)
+    (headerPut (rowPut rs id rate rmax 1 set) (n + 1) 0 p k)
+    (headerPut (rowPut (entryPut rs (v - 1) 0) id rate rmax 1 set) n (v - 1) p k)
 
 pub record Recording (rs : List ℕ) (n v id p k : ℕ) : Type 0 where
   pub vacant : v ≤ n

@@ -73,7 +73,7 @@ fn new_id(refs: &[u32], c: Counts) -> usize
 // Recording id is written into the references, from what is in use; p postings and k stopped keys are left.
 fn put_recording(refs: &mut [u32], c: Counts, id: usize, row: Row, p: usize, k: usize)
     requires { ⌜ Recording (now refs) (c .rows) (c .vacant) id p k ⌝ }
-    ensures { λ _. ⌜ now (refs .exit) ≡ recorded (now (refs .entry)) (c .rows) (c .vacant) id (row .rate) (row .rmax) p k ⌝ }
+    ensures { λ _. ⌜ now (refs .exit) ≡ recorded (now (refs .entry)) (c .rows) (c .vacant) id (row .rate) (row .rmax) (row .set) p k ⌝ }
 {
     let n = c.rows;
     let v = c.vacant;
@@ -95,6 +95,7 @@ fn write_recording(
     hashes: &[u32],
     w: usize,
     rate: u32,
+    set: u32,
     order: &[i64],
     m: usize,
     overs: &[u32],
@@ -103,7 +104,7 @@ fn write_recording(
     requires { ⌜ Writable w (now refs) (now posts) (now stops) (now hashes) (now order) m (now overs) n ⌝ }
     ensures { λ r. ⌜ r ≡ idIn (now (refs .entry)) ⌝ }
     ensures { λ _. ⌜ now (refs .exit) ≡ recorded (now (refs .entry)) (getD (now (refs .entry)) 0 0) (getD (now (refs .entry)) 1 0) (idIn (now (refs .entry))) (canonical rate)
-        (cond (hasRmax w) (largestAnchor (hashesOf w (now (hashes .entry)))) 0)
+        (cond (hasRmax w) (largestAnchor (hashesOf w (now (hashes .entry)))) 0) set
         (length (postingsIn w (now (refs .entry)) (now (posts .entry)) (now (hashes .entry)) (now (order .entry)) m (now (overs .entry)) n)) (getD (now (refs .entry)) 3 0 + n) ⌝ }
     ensures { λ _. ⌜ now (posts .exit) ≡ padded (length (now (posts .entry)))
         (flat (postingsIn w (now (refs .entry)) (now (posts .entry)) (now (hashes .entry)) (now (order .entry)) m (now (overs .entry)) n)) ⌝ }
@@ -114,7 +115,7 @@ fn write_recording(
     let id = new_id(refs, h);
     let q = place_news(posts, w, h.postings, hashes, id as u32, order, m, overs, n);
     stop_keys(stops, k, overs, n);
-    put_recording(refs, h, id, rows::row_of(hashes, w, rate), q, k + n);
+    put_recording(refs, h, id, rows::row_of(hashes, w, rate, set), q, k + n);
     id as u32
 }
 
@@ -130,7 +131,7 @@ fn is_full(refs: &[u32]) -> bool
     h.rows == (refs.len() - rows::HEAD_WIDTH) / rows::ROW_WIDTH
 }
 
-// An insertion into a sound store that has a row left, of a fingerprint that is well formed.
+// An insertion into a sound store that has a row left, of a fingerprint that is well formed, under a set that is allowed.
 fn admit(
     refs: &mut [u32],
     posts: &mut [u32],
@@ -139,10 +140,11 @@ fn admit(
     w: usize,
     rate: u32,
     limit: u32,
+    set: u32,
 ) -> Insertion
-    requires { ⌜ Ready w (lent refs posts stops) (now hashes) ⌝ }
+    requires { ⌜ Ready w (lent refs posts stops) (now hashes) set ⌝ }
     ensures { λ r. ⌜ (insertionAnswer r, lent (refs .exit) (posts .exit) (stops .exit))
-        ≡ runInsert w (lent (refs .entry) (posts .entry) (stops .entry)) limit rate (now (hashes .entry)) ⌝ }
+        ≡ runInsert w (lent (refs .entry) (posts .entry) (stops .entry)) limit rate set (now (hashes .entry)) ⌝ }
 {
     let h = rows::header(refs);
     let p = h.postings;
@@ -159,10 +161,22 @@ fn admit(
     if stops.len() < k + n {
         return Insertion::Refused(7);
     }
-    Insertion::Stored(write_recording(refs, posts, stops, hashes, w, rate, &order, m, &overs, n))
+    Insertion::Stored(write_recording(
+        refs,
+        posts,
+        stops,
+        hashes,
+        w,
+        rate,
+        set,
+        &order,
+        m,
+        &overs,
+        n,
+    ))
 }
 
-// Inserts a recording with the hashes of a fingerprint, w - 1 words each. A key that then has more postings than the limit is stopped.
+// Inserts a recording of a set with the hashes of a fingerprint, w - 1 words each. A key that then has more postings than the limit is stopped.
 pub fn insert(
     refs: &mut [u32],
     posts: &mut [u32],
@@ -171,10 +185,11 @@ pub fn insert(
     w: usize,
     rate: u32,
     limit: u32,
+    set: u32,
 ) -> Insertion
     requires { ⌜ (3 ≤ w) × (w ≤ 5) ⌝ }
     ensures { λ r. ⌜ (insertionAnswer r, lent (refs .exit) (posts .exit) (stops .exit))
-        ≡ runInsert w (lent (refs .entry) (posts .entry) (stops .entry)) limit rate (now (hashes .entry)) ⌝ }
+        ≡ runInsert w (lent (refs .entry) (posts .entry) (stops .entry)) limit rate set (now (hashes .entry)) ⌝ }
 {
     let n = soundness::refusal_of(refs, posts, stops, w);
     if n != 0 {
@@ -183,8 +198,11 @@ pub fn insert(
     if rows::is_malformed(hashes, w, 8192) {
         return Insertion::Refused(3);
     }
+    if !rows::is_set(set) {
+        return Insertion::Refused(9);
+    }
     if is_full(refs) {
         return Insertion::Refused(5);
     }
-    admit(refs, posts, stops, hashes, w, rate, limit)
+    admit(refs, posts, stops, hashes, w, rate, limit, set)
 }

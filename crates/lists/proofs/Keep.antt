@@ -52,6 +52,22 @@ module _ {A : Type 0} where
   keep-ext t u h [] = refl
   keep-ext t u h (x ∷ xs) = rw (h x, keep-ext t u h xs)
 
+  -- tests that agree on every element of the list
+  pub keep-same : (t u : A → Bool) (l : List A) → All (λ x. t x ≡ u x) l → keep t l ≡ keep u l
+  unfolding keep
+  keep-same t u [] a = refl
+  keep-same t u (x ∷ l) a = rw (a .0, keep-same t u l (a .1))
+
+  -- of those that pass u, t keeps those that v does, where the two agree on them
+  pub keep-both : (t v u : A → Bool) → ((x : A) → u x ≡ true → t x ≡ v x) → (l : List A) → keep t (keep u l) ≡ keep u (keep v l)
+  unfolding keep
+  keep-both t v u h [] = refl
+  keep-both t v u h (x ∷ xs) =
+      let ih = keep-both t v u h xs in
+      test (u x)
+      (λ e. test (v x) (λ d. rw (e, h x e, d, e, ih)) (λ d. rw (e, h x e, d, ih)))
+      (λ e. test (v x) (λ d. rw (e, d, e, ih)) (λ d. rw (e, d, ih)))
+
   pub keep-all : (t : A → Bool) (l : List A) → All (λ x. t x ≡ true) l → keep t l ≡ l
   unfolding keep
   keep-all t [] h = refl

@@ -2,6 +2,7 @@
 use mathlib.Core.Path.{_≡_, refl, sym, ap, _∙_}
 use mathlib.Core.Bool.{Bool, true, false, not, _||_}
 use mathlib.Core.List.{List, [], _∷_}
+use mathlib.Core.Option.{Option}
 use Prim.Native.Nat.{ℕ, suc, _≤_}
 use native.Mathlib.Omega.{arith}
 use lib.ListN.{length, length-append}
@@ -13,8 +14,9 @@ use Rattle.lists.proofs.Tests.{test}
 use Rattle.lists.proofs.Keep.{keep-comm, keep-ext, keep-append, all-kept, all-imp, all-append, length-flat-keep}
 use Rattle.lists.proofs.Place.{under-keep, under-placeAll, sorted-keep, sorted-placeAll, all-placeAll}
 use Rattle.model.specs.Fingerprints.{Hash}
-use Rattle.model.specs.Index.{Posting, Index, keyOf, ofId, exceeds, unskipped, isStopped, placed, postingsAfter, stoppedAfter}
-use Rattle.model.specs.Query.{Scheme, Query, Catalog, catalog, hashes, gather, votes, candidate, bestBelow, bestOf, tooManyVotes}
+use Rattle.model.specs.Rows.{Row}
+use Rattle.model.specs.Index.{Posting, Index, keyOf, ofId, isLive, exceeds, unskipped, isStopped, placed, postingsAfter, stoppedAfter}
+use Rattle.model.specs.Query.{Scheme, Query, Catalog, catalog, asked, voting, hashes, gather, votes, candidate, bestBelow, bestOf, tooManyVotes}
 use Rattle.model.specs.History.{arrived, heldAfter, stopsAfter}
 use Rattle.model.proofs.Best.{best-ext}
 use Rattle.model.proofs.Parts.{member-stopKeys, clean-without}
@@ -35,6 +37,12 @@ unfoldable pub Clean : Catalog → Type 0
 Clean c = All (λ p. c .stopped (keyOf p) ≡ false) (c .held)
 
 -- ---- queries
+
+-- under each key the same postings vote
+voting-same : (set : ℕ) (c d : Catalog) → Agrees c d → (k : ℕ) → under keyOf k (voting set c) ≡ under keyOf k (voting set d)
+voting-same set c d A k =
+    under-keep keyOf (λ p. isLive (asked set (c .live (p .id)))) (c .held) (d .held) (A .held) k
+    ∙ ap (under keyOf k) (keep-ext (λ p. isLive (asked set (c .live (p .id)))) (λ p. isLive (asked set (d .live (p .id)))) (λ p. ap (λ (o : Option Row). isLive (asked set o)) (A .live (p .id))) (d .held))
 
 module _ (S : Scheme) where
   pub gather-same : (a : S .Ask) (i : ℕ) (hs : List Hash) (l m : List Posting) → ((k : ℕ) → under keyOf k l ≡ under keyOf k m) → gather S a i hs l ≡ gather S a i hs m
@@ -62,7 +70,7 @@ module _ (S : Scheme) where
 
     pub many-same : tooManyVotes S q c ≡ tooManyVotes S q d
     unfolding tooManyVotes
-    many-same = rw (gather-same (q .ask) 0 (hashes S q) (c .held) (d .held) (A .held))
+    many-same = rw (gather-same (q .ask) 0 (hashes S q) (voting (q .set) c) (voting (q .set) d) (voting-same (q .set) c d A))
 
 -- ---- arrivals
 

@@ -57,18 +57,18 @@ module _ (w : ℕ) (w2 : 2 ≤ w) where
           ∙ ap (entries (w - 1) (hashCount w a)) (take-at a b ((w - 1) * hashCount w a) (even-length a e))
 
   abbrev fingerprints : List Recording → List Fingerprint
-  fingerprints rs = map (λ r. fingerprintOf w (r .rate) (r .words)) rs
+  fingerprints rs = map (λ r. fingerprintOf w (r .rate) (r .set) (r .words)) rs
 
   same-fingerprints : (rs : List Recording) → All (λ r. uneven w (r .words) ≡ false) rs
-      → fingerprintsOf w (flat (map (λ r. r .words) rs)) (map (λ r. hashCount w (r .words)) rs) (map (λ r. r .rate) rs) ≡ fingerprints rs
+      → fingerprintsOf w (flat (map (λ r. r .words) rs)) (map (λ r. hashCount w (r .words)) rs) (map (λ r. r .rate) rs) (map (λ r. r .set) rs) ≡ fingerprints rs
   unfolding divided flat
   same-fingerprints [] h = refl
   same-fingerprints (r ∷ rs) h =
       let long = length-hashes w (r .words) in
-      ap (λ (hs : List Hash). divided hs (hashCount w (r .words) ∷ map (λ r. hashCount w (r .words)) rs) (r .rate ∷ map (λ r. r .rate) rs)) (hashes-append (r .words) (flat (map (λ r. r .words) rs)) (h .0))
-      ∙ (λ i. record { rate = r .rate; hashes = take-at (hashesOf w (r .words)) (hashesOf w (flat (map (λ r. r .words) rs))) (hashCount w (r .words)) long i }
-      ∷ divided (drop-at (hashesOf w (r .words)) (hashesOf w (flat (map (λ r. r .words) rs))) (hashCount w (r .words)) long i) (map (λ r. hashCount w (r .words)) rs) (map (λ r. r .rate) rs))
-      ∙ ap (λ (fs : List Fingerprint). fingerprintOf w (r .rate) (r .words) ∷ fs) (same-fingerprints rs (h .1))
+      ap (λ (hs : List Hash). divided hs (hashCount w (r .words) ∷ map (λ r. hashCount w (r .words)) rs) (r .rate ∷ map (λ r. r .rate) rs) (r .set ∷ map (λ r. r .set) rs)) (hashes-append (r .words) (flat (map (λ r. r .words) rs)) (h .0))
+      ∙ (λ i. record { rate = r .rate; set = r .set; hashes = take-at (hashesOf w (r .words)) (hashesOf w (flat (map (λ r. r .words) rs))) (hashCount w (r .words)) long i }
+      ∷ divided (drop-at (hashesOf w (r .words)) (hashesOf w (flat (map (λ r. r .words) rs))) (hashCount w (r .words)) long i) (map (λ r. hashCount w (r .words)) rs) (map (λ r. r .rate) rs) (map (λ r. r .set) rs))
+      ∙ ap (λ (fs : List Fingerprint). fingerprintOf w (r .rate) (r .set) (r .words) ∷ fs) (same-fingerprints rs (h .1))
 
 -- ---- the calls
 
@@ -77,19 +77,19 @@ module _ (S : Scheme) (w2 : 2 ≤ S .width) (limit : ℕ) where
   w = S .width
 
   abbrev built : List Recording → List Fingerprint
-  built rs = fingerprintsOf w (flat (map (λ r. r .words) rs)) (map (λ r. hashCount w (r .words)) rs) (map (λ r. r .rate) rs)
+  built rs = fingerprintsOf w (flat (map (λ r. r .words) rs)) (map (λ r. hashCount w (r .words)) rs) (map (λ r. r .rate) rs) (map (λ r. r .set) rs)
 
   -- an accepted insert
-  insert-leaves : (t : Words) (r : Recording) (x : Index) → storeOf w t ≡ holds x → Accepted (run S t (insert limit (r .rate) (r .words)) .0)
-      → (uneven w (r .words) ≡ false) × (storeOf w (run S t (insert limit (r .rate) (r .words)) .1) ≡ holds (inserted w limit (fingerprintOf w (r .rate) (r .words)) x))
+  insert-leaves : (t : Words) (r : Recording) (x : Index) → storeOf w t ≡ holds x → Accepted (run S t (insert limit (r .rate) (r .set) (r .words)) .0)
+      → (uneven w (r .words) ≡ false) × (storeOf w (run S t (insert limit (r .rate) (r .set) (r .words)) .1) ≡ holds (inserted w limit (fingerprintOf w (r .rate) (r .set) (r .words)) x))
   unfolding insertStep insertTests malformed
   insert-leaves t r x e a =
       maybe (refusal tests)
-      (λ d. (even d, run-leaves S w2 t (insert limit (r .rate) (r .words)) ∙ rw d (ap (λ (s : Store). holds (inserted w limit (fingerprintOf w (r .rate) (r .words)) (content s))) e)))
-      (λ n d. absurd (a n (run-answers S w2 t (insert limit (r .rate) (r .words)) ∙ rw d)))
+      (λ d. (even d, run-leaves S w2 t (insert limit (r .rate) (r .set) (r .words)) ∙ rw d (ap (λ (s : Store). holds (inserted w limit (fingerprintOf w (r .rate) (r .set) (r .words)) (content s))) e)))
+      (λ n d. absurd (a n (run-answers S w2 t (insert limit (r .rate) (r .set) (r .words)) ∙ rw d)))
     where
       tests : List (ℕ × Bool)
-      tests = insertTests (sizesOf w t) (storeOf w t) (malformed w referenceMost (r .words)) limit (fingerprintOf w (r .rate) (r .words))
+      tests = insertTests (sizesOf w t) (storeOf w t) (malformed w referenceMost (r .words)) limit (fingerprintOf w (r .rate) (r .set) (r .words))
 
       even : refusal tests ≡ none → uneven w (r .words) ≡ false
       even d = or-false-left (uneven w (r .words)) _ (none-applies tests d 3)
@@ -100,8 +100,8 @@ module _ (S : Scheme) (w2 : 2 ≤ S .width) (limit : ℕ) where
   inserts-leave t x [] e a = (tt, e, refl)
   inserts-leave t x (r ∷ rs) e a =
       let one = insert-leaves t r x e (a .0) in
-      let rest = inserts-leave (run S t (insert limit (r .rate) (r .words)) .1) (inserted w limit (fingerprintOf w (r .rate) (r .words)) x) rs (one .1) (a .1) in
-      ((one .0, rest .0), rest .1, rest .2 ∙ run-sizes S w2 t (insert limit (r .rate) (r .words)))
+      let rest = inserts-leave (run S t (insert limit (r .rate) (r .set) (r .words)) .1) (inserted w limit (fingerprintOf w (r .rate) (r .set) (r .words)) x) rs (one .1) (a .1) in
+      ((one .0, rest .0), rest .1, rest .2 ∙ run-sizes S w2 t (insert limit (r .rate) (r .set) (r .words)))
 
   -- an accepted build
   build-leaves : (m : Words) (rs : List Recording) → Accepted (run S m (oneBuild S limit rs) .0)
@@ -112,7 +112,7 @@ module _ (S : Scheme) (w2 : 2 ≤ S .width) (limit : ℕ) where
       (λ n d. absurd (a n (rw d)))
     where
       tests : List (ℕ × Bool)
-      tests = buildTests (sizesOf w m) (storeOf w m) (malformedBuild w (flat (map (λ r. r .words) rs)) (map (λ r. hashCount w (r .words)) rs) (map (λ r. r .rate) rs)) limit (built rs)
+      tests = buildTests (sizesOf w m) (storeOf w m) (malformedBuild w (flat (map (λ r. r .words) rs)) (map (λ r. hashCount w (r .words)) rs) (map (λ r. r .rate) rs) (map (λ r. r .set) rs)) limit (built rs)
 
   -- every word zero: an empty index, laid out
   blank-is : (m : Words) → slicesListed w m ≡ true → write w (sizesOf w m) empty ≡ blank m

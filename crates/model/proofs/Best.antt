@@ -2,7 +2,7 @@
 use mathlib.Core.Path.{_≡_, refl, sym, ap, _∙_}
 use mathlib.Core.Bool.{true, false, not}
 use mathlib.Core.Option.{Option, none, some}
-use Prim.Native.Nat.{ℕ, zero, suc, _≤_, _<_}
+use Prim.Native.Nat.{ℕ, zero, suc, _+_, _-_, _≤_, _<_}
 use native.Mathlib.Omega.{arith}
 use lib.Dec.{eqb, ltb}
 use borrow.Author.Tests.{ltb-true, ltb-false, eqb-true, eqb-false, lt-ltb, le-ltb}
@@ -17,6 +17,18 @@ pub best-ext : (f g : ℕ → Option MatchResult) (n : ℕ) → ((j : ℕ) → j
 unfolding bestBelow
 best-ext f g zero h = refl
 best-ext f g (suc n) h = rw (best-ext f g n (λ j e. h j (omega arith)), h n (omega arith))
+
+-- ids that are no candidates change nothing
+skip : (f : ℕ → Option MatchResult) (a d : ℕ) → ((j : ℕ) → a ≤ j → f j ≡ none) → bestBelow (a + d) f ≡ bestBelow a f
+unfolding bestBelow
+skip f a zero h = let e : a + 0 ≡ a = omega arith in rw e
+skip f a (suc d) h =
+    let ih = skip f a d h in
+    let e : a + suc d ≡ suc (a + d) = omega arith in
+    rw (e, h (a + d) (omega arith)) ih
+
+pub best-skip : (f : ℕ → Option MatchResult) (a n : ℕ) → a ≤ n → ((j : ℕ) → a ≤ j → f j ≡ none) → bestBelow n f ≡ bestBelow a f
+best-skip f a n le h = let e : a + (n - a) ≡ n = omega arith in rw e at (skip f a (n - a) h)
 
 -- the best is a candidate
 pub best-is : (f : ℕ → Option MatchResult) (n : ℕ) (b : ℕ × MatchResult) → bestBelow n f ≡ some b → f (b .0) ≡ some (b .1)

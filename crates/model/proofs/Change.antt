@@ -1,26 +1,26 @@
 -- What a new recording, and one that is removed, do to a query's answer; on catalogs. Assumes nothing.
 use mathlib.Core.Path.{_≡_, refl, sym, ap, _∙_, subst}
 use mathlib.Core.Logic.{_⊎_, inl, inr}
-use mathlib.Core.Bool.{Bool, true, false, not}
+use mathlib.Core.Bool.{Bool, true, false, cond, not}
 use mathlib.Core.List.{List, [], _∷_, _++_, append-nil}
 use mathlib.Core.Option.{Option, none, some}
 use Prim.Native.Nat.{ℕ, suc, _≤_, _<_, max}
 use native.Mathlib.Omega.{arith}
 use lib.ListN.{length}
 use lib.Dec.{eqb, ltb}
-use borrow.Author.Tests.{ltb-true, ltb-false, eqb-true, eqb-false, eq-eqb, ne-eqb, le-ltb}
+use borrow.Author.Tests.{ltb-true, ltb-false, eqb-true, eqb-false, eq-eqb, ne-eqb, le-ltb, not-true}
 use Rattle.lists.specs.Lists.{keep, none?}
 use Rattle.lists.specs.Keys.{hasKey}
 use Rattle.lists.proofs.Tests.{test, maybe, not-both}
-use Rattle.lists.proofs.Keep.{keep-comm, keep-append, keep-all, keep-none, all-keep, all-kept, all-imp, all-of-key, key-of-all}
+use Rattle.lists.proofs.Keep.{keep-comm, keep-both, keep-append, keep-all, keep-none, all-keep, all-kept, all-imp, all-of-key, key-of-all}
 use Rattle.matching.specs.declared.MatchResult.{MatchResult}
 use Rattle.model.specs.Fingerprints.{Fingerprint}
 use Rattle.model.specs.Rows.{Row}
-use Rattle.model.specs.Index.{Posting, keyOf, ofId, posted, unskipped, exceeds, isLive}
-use Rattle.model.specs.Query.{Scheme, Query, Catalog, hashes, room, votes, judged, candidate, bestBelow, bestOf, tooManyVotes}
+use Rattle.model.specs.Index.{Posting, keyOf, ofId, withoutId, posted, unskipped, exceeds, isLive}
+use Rattle.model.specs.Query.{Scheme, Query, Catalog, asked, voting, hashes, room, votes, judged, candidate, bestBelow, bestOf, tooManyVotes}
 use Rattle.model.specs.Calls.{Answer, best, nothing, answerOf}
 use Rattle.model.specs.History.{arrived, withRecording, withoutRecording}
-use Rattle.model.specs.Claim.{ranksAbove, KeysKept, BecomesBest, OldOrNew}
+use Rattle.model.specs.Claim.{ranksAbove, isConcerned, KeysKept, BecomesBest, OldOrNew}
 use Rattle.model.proofs.Fingerprints.{posted-other}
 use Rattle.model.proofs.Best.{best-ext, best-is, best-none, Joined, alone, wins, loses, best-joined, best-without}
 use Rattle.model.proofs.Agree.{Clean, gather-fewer}
@@ -57,18 +57,23 @@ module _ (S : Scheme) where
   answer-best none j r e = let z : _≡_ {A = ℕ} 0 1 = cc in absurd (omega arith)
   answer-best (some t) j r e = let a : t .0 ≡ j = cc in let b : t .1 ≡ r = cc in λ i. some (a i, b i)
 
-  module _ (q : Query S) (c : Catalog) (limit : ℕ) (f : Fingerprint) (id : ℕ) (clean : Clean c) (kept : KeysKept c (withRecording (S .width) limit f id c) id) where
+  -- who votes is concerned
+  concerned : (set : ℕ) (o : Option Row) → isLive (asked set o) ≡ true → isConcerned set o ≡ true
+  concerned set none h = h
+  concerned set (some r) h = test (isConcerned set (some r)) (λ d. d) (λ d. let z : _≡_ {A = ℕ} 0 1 = cc in absurd (omega arith))
+
+  module _ (q : Query S) (c : Catalog) (limit : ℕ) (f : Fingerprint) (id : ℕ) (clean : Clean c) (kept : KeysKept (q .set) c (withRecording (S .width) limit f id c) id) where
     over : ℕ → Bool
     over = exceeds limit (posted id (f .hashes)) (arrived c (posted id (f .hashes)))
 
-    not-over : (j k : ℕ) → (j ≡ id → ⊥) → isLive (c .live j) ≡ true → hasKey keyOf k (ofId j (c .held)) ≡ true → not (over k) ≡ true
+    not-over : (j k : ℕ) → (j ≡ id → ⊥) → isLive (asked (q .set) (c .live j)) ≡ true → hasKey keyOf k (ofId j (c .held)) ≡ true → not (over k) ≡ true
     unfolding over withRecording Clean
     not-over j k ne there has =
         let free : c .stopped k ≡ false = key-of-all keyOf (λ k. c .stopped k ≡ false) (ofId j (c .held)) (all-keep (λ p. c .stopped (keyOf p) ≡ false) (λ p. eqb (p .id) j) (c .held) clean) k has in
-        test (over k) (λ e. absurd (kept j k there ne has free (rw (free, e)))) (λ e. rw e)
+        test (over k) (λ e. absurd (kept j k (concerned (q .set) (c .live j) there) ne has free (rw (free, e)))) (λ e. rw e)
 
     -- what another live recording holds stays
-    ofId-same : (j : ℕ) → (j ≡ id → ⊥) → isLive (c .live j) ≡ true → ofId j (withRecording (S .width) limit f id c .held) ≡ ofId j (c .held)
+    ofId-same : (j : ℕ) → (j ≡ id → ⊥) → isLive (asked (q .set) (c .live j)) ≡ true → ofId j (withRecording (S .width) limit f id c .held) ≡ ofId j (c .held)
     unfolding over withRecording
     ofId-same j ne there =
         keep-comm (λ p. eqb (p .id) j) (λ p. not (over (keyOf p))) (arrived c (posted id (f .hashes)))
@@ -85,7 +90,7 @@ module _ (S : Scheme) where
 
     pub candidate-others : (j : ℕ) → (j ≡ id → ⊥) → candidate S q (withRecording (S .width) limit f id c) j ≡ candidate S q c j
     unfolding candidate
-    candidate-others j ne = maybe (c .live j)
+    candidate-others j ne = maybe (asked (q .set) (c .live j))
         (λ e. rw (live-same j ne, e))
         (λ r e. rw (ofId-same j ne (rw e), live-same j ne))
 
@@ -119,7 +124,7 @@ module _ (S : Scheme) where
 
     becomes : (old : Answer) (r : MatchResult) → candidate S q d id ≡ some r → ((old ≡ nothing) ⊎ ((j : ℕ) × (t : MatchResult) × (old ≡ best j t) × (ranksAbove r id t j ≡ true))) → BecomesBest S q d id old r
     unfolding candidate
-    becomes old r e k = let P = passes q (d .live id) (votes S q (ofId id (d .held))) r e in record { row = P .row; live = P .live; vote = P .vote; passes = P .passes; ranks = k }
+    becomes old r e k = let P = passes q (asked (q .set) (d .live id)) (votes S q (ofId id (d .held))) r e in record { row = P .row; live = P .live; vote = P .vote; passes = P .passes; ranks = k }
 
     joins : (r : MatchResult) → candidate S q d id ≡ some r → Joined id r b b′
     joins r e = subst (λ (o : Option (ℕ × MatchResult)). Joined id r o b′) further (best-joined (candidate S q c) (candidate S q d) id r was e others (d .size) wide)
@@ -195,7 +200,13 @@ module _ (S : Scheme) where
     unfolding withoutRecording
     found-without other = ap answerOf (best-without (candidate S q c) (candidate S q (withoutRecording id c)) id (c .size) one-gone others-same (λ r e. other r (ap answerOf e)))
 
+    -- the others vote as before
+    voting-without : voting (q .set) (withoutRecording id c) ≡ withoutId id (voting (q .set) c)
+    unfolding withoutRecording
+    voting-without = keep-both (λ (p : Posting). isLive (asked (q .set) (cond (eqb (p .id) id) none (c .live (p .id))))) (λ p. isLive (asked (q .set) (c .live (p .id)))) (λ p. not (eqb (p .id) id))
+        (λ p e. rw (not-true (eqb (p .id) id) e)) (c .held)
+
     pub many-without : tooManyVotes S q c ≡ false → tooManyVotes S q (withoutRecording id c) ≡ false
-    unfolding withoutRecording tooManyVotes
-    many-without e = le-ltb (room S q) (length (votes S q (withoutRecording id c .held)))
-        (omega (arith, ltb-false (room S q) (length (votes S q (c .held))) e, gather-fewer S (q .ask) 0 (hashes S q) (λ p. not (eqb (p .id) id)) (c .held)))
+    unfolding tooManyVotes
+    many-without e = le-ltb (room S q) (length (votes S q (voting (q .set) (withoutRecording id c))))
+        (rw voting-without (omega (arith, ltb-false (room S q) (length (votes S q (voting (q .set) c))) e, gather-fewer S (q .ask) 0 (hashes S q) (λ p. not (eqb (p .id) id)) (voting (q .set) c))))

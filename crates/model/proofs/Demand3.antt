@@ -11,7 +11,7 @@ use Rattle.model.specs.Fingerprints.{Fingerprint, fingerprintOf, malform
 use Rattle.model.specs.Rows.{Row}
 use Rattle.model.specs.Index.{nextId, newId, isLive, inserted, erased}
 use Rattle.model.specs.Query.{Scheme, Query, Catalog, catalog, tooManyVotes}
-use Rattle.model.specs.Calls.{Sizes, Store, holds, content, isUnlisted, Answer, stored, removed, count, Call, build, insert, remove, liveCount, query, refusal, insertTests, plainTests, scratchListed, queryTests, outcome, buildStep, insertStep, removeStep, countStep, queryStep, answerOf, stepOf, step}
+use Rattle.model.specs.Calls.{Sizes, Store, holds, content, isUnlisted, Answer, stored, removed, count, Call, build, insert, remove, liveCount, query, refusal, insertTests, plainTests, scratchListed, earlyTests, queryTests, outcome, buildStep, insertStep, removeStep, countStep, queryStep, answerOf, stepOf, step}
 use Rattle.model.specs.Sound.{SoundStore}
 use Rattle.model.specs.History.{withRecording, withoutRecording, storedId, withRecordingIf, after, leaves, answers, replay, history, answerFrom}
 use Rattle.model.specs.Claim.{Accepted, KeysKept, OldOrNew, AfterInsert, AfterRemove, ClaimedAt, Demand3, FromHistory}
@@ -55,10 +55,10 @@ module _ (S : Scheme) (z : Sizes) (w2 : 2 ≤ S .width) where
 
   -- ---- insert
 
-  insert-core : (s : Store) (c : Catalog) → Inv w z s c → (limit : ℕ) (f : Fingerprint) → KeysKept c (withRecording w limit f (newId (content s)) c) (newId (content s))
-      → (q : Query S) → OldOrNew S q (withRecording w limit f (newId (content s)) c) (newId (content s)) (found S q c) (found S q (withRecording w limit f (newId (content s)) c))
+  insert-core : (s : Store) (c : Catalog) → Inv w z s c → (limit : ℕ) (f : Fingerprint) (q : Query S) → KeysKept (q .set) c (withRecording w limit f (newId (content s)) c) (newId (content s))
+      → OldOrNew S q (withRecording w limit f (newId (content s)) c) (newId (content s)) (found S q c) (found S q (withRecording w limit f (newId (content s)) c))
   unfolding withRecording
-  insert-core s c I limit f kept q =
+  insert-core s c I limit f q kept =
       old-or-new S q c (withRecording w limit f (newId (content s)) c) (newId (content s))
       (candidate-vacant S q c (newId (content s)) vacant)
       (candidate-others S q c limit f (newId (content s)) (I .clean) kept)
@@ -74,10 +74,10 @@ module _ (S : Scheme) (z : Sizes) (w2 : 2 ≤ S .width) where
   after-insert : (s : Store) (c : Catalog) → Inv w z s c → (limit : ℕ) (f : Fingerprint)
       → Inv w z (holds (inserted w limit f (content s))) (withRecording w limit f (newId (content s)) c)
       → AfterInsert S (reply s) (reply (holds (inserted w limit f (content s)))) c (withRecording w limit f (newId (content s)) c) (newId (content s))
-  after-insert s c I limit f J kept q h k =
+  after-insert s c I limit f J q kept h k =
       let t : Store = holds (inserted w limit f (content s)) in
       rw (answered s c I q (accepted s q h), answered t (withRecording w limit f (newId (content s)) c) J q (accepted t q k))
-      (insert-core s c I limit f kept q)
+      (insert-core s c I limit f q kept)
 
   at-insert : (s : Store) (c : Catalog) → Inv w z s c → (bad : Bool) (limit : ℕ) (f : Fingerprint) → WideHashes w (f .hashes) → (o : Option ℕ) → refusal (insertTests z s bad limit f) ≡ o → (id : ℕ)
       → outcome o s (stored (newId (content s))) (holds (inserted w limit f (content s))) .0 ≡ stored id
@@ -92,10 +92,10 @@ module _ (S : Scheme) (z : Sizes) (w2 : 2 ≤ S .width) where
 
   tests-again : (s : Store) (id : ℕ) (q : Query S) → (tooManyVotes S q (catalog (content s)) ≡ false → tooManyVotes S q (catalog (erased id (content s))) ≡ false)
       → refusal (queryTests S s q) ≡ none → refusal (queryTests S (holds (erased id (content s))) q) ≡ none
-  unfolding queryTests
+  unfolding earlyTests queryTests
   tests-again s id q many h =
       let t = none-applies (queryTests S s q) h in
-      not-refused (queryTests S (holds (erased id (content s))) q) (or-false-right (isUnlisted s) (not (scratchListed (S .voteWords) (q .scratch))) (t 1), (refl, (t 3, (t 4, (many (t 8), tt)))))
+      not-refused (queryTests S (holds (erased id (content s))) q) (or-false-right (isUnlisted s) (not (scratchListed (S .voteWords) (q .scratch))) (t 1), (refl, (t 3, (t 4, (t 9, (many (t 8), tt))))))
 
   after-remove : (s : Store) (c : Catalog) → Inv w z s c → (id : ℕ) → isLive (getD (content s .rows) id none) ≡ true
       → AfterRemove S (reply s) (reply (holds (erased id (content s)))) id
@@ -128,11 +128,11 @@ module _ (S : Scheme) (z : Sizes) (w2 : 2 ≤ S .width) where
   at : (s : Store) (c : Catalog) → Inv w z s c → (x : Call S)
       → ClaimedAt S (reply s) (reply (step S z s x .1)) c (after S c x (step S z s x .0)) (step S z s x .0) x
   unfolding insertStep removeStep after
-  at s c I (insert limit rate words) =
-      at-insert s c I (malformed w referenceMost words) limit (fingerprintOf w rate words) (wide-hashes w w2 words)
-      (refusal (insertTests z s (malformed w referenceMost words) limit (fingerprintOf w rate words))) refl
+  at s c I (insert limit rate set words) =
+      at-insert s c I (malformed w referenceMost words) limit (fingerprintOf w rate set words) (wide-hashes w w2 words)
+      (refusal (insertTests z s (malformed w referenceMost words) limit (fingerprintOf w rate set words))) refl
   at s c I (remove id) = at-remove s c I id (refusal (plainTests s)) (isLive (getD (content s .rows) id none)) refl
-  at s c I (build limit words lengths rates) = tt
+  at s c I (build limit words lengths rates sets) = tt
   at s c I liveCount = tt
   at s c I (query q) = tt
 
@@ -150,8 +150,8 @@ module _ (S : Scheme) (z : Sizes) (w2 : 2 ≤ S .width) where
   -- an accepted call answers what the catalog says
   told : (s : Store) (c : Catalog) → Inv w z s c → (x : Call S) → stepOf S z s x .answer ≡ answerFrom S c x
   unfolding buildStep insertStep removeStep countStep queryStep
-  told s c I (build limit words lengths rates) = refl
-  told s c I (insert limit rate words) = ap stored (ap (λ (v : List ℕ). nextId v (length (content s .rows))) (I .agrees .vacant) ∙ ap (nextId (c .vacant)) (I .agrees .size))
+  told s c I (build limit words lengths rates sets) = refl
+  told s c I (insert limit rate set words) = ap stored (ap (λ (v : List ℕ). nextId v (length (content s .rows))) (I .agrees .vacant) ∙ ap (nextId (c .vacant)) (I .agrees .size))
   told s c I (remove id) = ap (λ (o : Option Row). removed (isLive o)) (I .agrees .live id)
   told s c I liveCount = ap (λ (n : ℕ). count (n - length (content s .vacant))) (I .agrees .size) ∙ ap (λ (v : List ℕ). count (c .size - length v)) (I .agrees .vacant)
   told s c I (query q) = ap answerOf (best-same S (I .agrees) q)

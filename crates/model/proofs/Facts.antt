@@ -11,10 +11,10 @@ use Rattle.lists.specs.Every.{every, count, allTrue}
 use Rattle.lists.specs.Entries.{keyAt, keysAscend, zeroFrom}
 use Rattle.lists.proofs.Tests.{test, and-left, and-right, no-and, both-true, or-else, or-left, or-right, all-true-at, all-more, all-none}
 use Rattle.lists.proofs.Every.{every-at, every-make}
-use Rattle.model.specs.Rows.{hasRmax, noRate, isCanonical}
+use Rattle.model.specs.Rows.{hasRmax, noRate, isCanonical, isSet}
 use Rattle.model.specs.Calls.{Sizes}
-use Rattle.model.specs.Soundness.{rowWord, postingWord, countsFit, liveWord, stoppedStep, deadRow, otherEntry, vacantEntry, deadFine, rateFine, liveId, postingLive, anchorFine, rmaxFine, otherKey, keyUnstopped, entryUnused, soundTests}
-use Rattle.model.specs.Words.{headWidth, rowWidth, atRate, atRmax, atLive, atVacant}
+use Rattle.model.specs.Soundness.{rowWord, postingWord, countsFit, liveWord, stoppedStep, deadRow, otherEntry, vacantEntry, deadFine, rateFine, liveId, postingLive, anchorFine, rmaxFine, otherKey, keyUnstopped, entryUnused, setFine, soundTests}
+use Rattle.model.specs.Words.{headWidth, rowWidth, atRate, atRmax, atLive, atVacant, atSet}
 
 -- ---- one test
 
@@ -78,9 +78,11 @@ module _ (w : ℕ) (z : Sizes) (rs ps ss : List ℕ) (n v p k : ℕ) where
     pub entries-unused : (i : ℕ) → v ≤ i → i < n → rowWord rs i atVacant ≡ 0
     pub postings-unused : zeroFrom ps (w * p) ≡ true
     pub stopped-unused : zeroFrom ss k ≡ true
+    pub dead-set : (j : ℕ) → j < n → rowWord rs j atLive ≡ 0 → rowWord rs j atSet ≡ 0
+    pub set : (j : ℕ) → j < n → (rowWord rs j atLive ≡ 0 → ⊥) → isSet (rowWord rs j atSet) ≡ true
 
   pub facts : allTrue (soundTests w z rs ps ss n v p k) ≡ true → Facts
-  unfolding soundTests countsFit liveWord stoppedStep otherEntry vacantEntry deadFine rateFine postingLive anchorFine rmaxFine otherKey keyUnstopped entryUnused
+  unfolding soundTests countsFit liveWord stoppedStep otherEntry vacantEntry deadFine rateFine postingLive anchorFine rmaxFine otherKey keyUnstopped entryUnused setFine
   facts all = record {
     rows-fit = leb-true n (z .R) (and-left (leb n (z .R)) _ fit);
     vacant-fit = leb-true v n (and-left (leb v n) _ fit1);
@@ -109,6 +111,8 @@ module _ (w : ℕ) (z : Sizes) (rs ps ss : List ℕ) (n v p k : ℕ) where
         eqb-true (rowWord rs i atVacant) 0 (rw e at (every-at (entryUnused rs v) (n - v) (i - v) (t 13) (omega arith)));
     postings-unused = t 14;
     stopped-unused = t 15;
+    dead-set = λ j h e. eqb-true (rowWord rs j atSet) 0 (rw (is-dead rs j e) at (every-at (setFine rs) n j (t 16) h));
+    set = λ j h e. rw (not-dead rs j e) at (every-at (setFine rs) n j (t 16) h);
   }
     where
       t : (i : ℕ) → getD (soundTests w z rs ps ss n v p k) i true ≡ true
@@ -130,7 +134,7 @@ module _ (w : ℕ) (z : Sizes) (rs ps ss : List ℕ) (n v p k : ℕ) where
       dead j h e = or-else (not (deadRow rs j)) _ (every-at (deadFine rs) n j (t 6) h) (ap not (is-dead rs j e))
 
   pub tests : Facts → allTrue (soundTests w z rs ps ss n v p k) ≡ true
-  unfolding soundTests countsFit liveWord stoppedStep otherEntry vacantEntry deadFine rateFine postingLive anchorFine rmaxFine otherKey keyUnstopped entryUnused
+  unfolding soundTests countsFit liveWord stoppedStep otherEntry vacantEntry deadFine rateFine postingLive anchorFine rmaxFine otherKey keyUnstopped entryUnused setFine
   tests F =
       all-more _ _ (both-true (leb n (z .R)) _ (le-leb n (z .R) (F .rows-fit)) (both-true (leb v n) _ (le-leb v n (F .vacant-fit)) (both-true (leb p (z .P)) (leb k (z .K)) (le-leb p (z .P) (F .postings-fit)) (le-leb k (z .K) (F .stopped-fit)))))
       (all-more _ _ (every-make (liveWord rs) n (λ j h. le-leb (rowWord rs j atLive) 1 (F .live j h)))
@@ -147,7 +151,8 @@ module _ (w : ℕ) (z : Sizes) (rs ps ss : List ℕ) (n v p k : ℕ) where
       (all-more _ _ (F .rows-unused)
       (all-more _ _ (every-make (entryUnused rs v) (n - v) (λ i h. eq-eqb (rowWord rs (v + i) atVacant) 0 (F .entries-unused (v + i) (omega arith) (omega arith))))
       (all-more _ _ (F .postings-unused)
-      (all-more _ _ (F .stopped-unused) all-none)))))))))))))))
+      (all-more _ _ (F .stopped-unused)
+      (all-more _ _ (every-make (setFine rs) n sets) all-none))))))))))))))))
     where
       vacant : (i : ℕ) → i < v → vacantEntry rs n i ≡ true
       vacant i h =
@@ -160,6 +165,11 @@ module _ (w : ℕ) (z : Sizes) (rs ps ss : List ℕ) (n v p k : ℕ) where
           (λ e. or-right (not (deadRow rs j)) _ (both-true (eqb (rowWord rs j atRate) noRate) (eqb (rowWord rs j atRmax) 0)
           (eq-eqb (rowWord rs j atRate) noRate (F .dead-rate j h (dead-true rs j e))) (eq-eqb (rowWord rs j atRmax) 0 (F .dead-rmax j h (dead-true rs j e)))))
           (λ e. or-left (not (deadRow rs j)) _ (ap not e))
+
+      sets : (j : ℕ) → j < n → setFine rs j ≡ true
+      sets j h = test (deadRow rs j)
+          (λ e. rw e (eq-eqb (rowWord rs j atSet) 0 (F .dead-set j h (dead-true rs j e))))
+          (λ e. rw e (F .set j h (dead-false rs j e)))
 
       anchor : (i : ℕ) → i < p → anchorFine w rs ps i ≡ true
       anchor i h = test (hasRmax w)

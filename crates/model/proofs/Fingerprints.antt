@@ -17,7 +17,7 @@ use Rattle.lists.proofs.Tests.{test}
 use Rattle.lists.proofs.Keep.{all-imp, all-map, all-append, all-take, all-drop, all-of, map-map, map-id, keep-all, keep-none, keep-nil, keep-append}
 use Rattle.lists.proofs.Entries.{wide-entries, length-read}
 use Rattle.model.specs.Fingerprints.{Hash, Fingerprint, hashOf, hashCount, hashesOf, divided, fingerprintsOf}
-use Rattle.model.specs.Rows.{hasRmax, anchor, largestAnchor, noRate, canonical, isCanonical, rowOf, rowSound, hashSound}
+use Rattle.model.specs.Rows.{hasRmax, anchor, largestAnchor, noRate, canonical, isCanonical, isSet, rowOf, rowSound, hashSound}
 use Rattle.model.specs.Index.{Posting, posted, numbered, ofId}
 
 -- ---- rows
@@ -35,9 +35,9 @@ unfolding largestAnchor
 anchor-largest [] = tt
 anchor-largest (h ∷ hs) = (omega arith, all-imp (λ g. anchor g ≤ largestAnchor hs) (λ g. anchor g ≤ max (anchor h) (largestAnchor hs)) (λ g le. omega arith) hs (anchor-largest hs))
 
-pub row-sound : (w : ℕ) (f : Fingerprint) → rowSound w (rowOf w f) ≡ true
+pub row-sound : (w : ℕ) (f : Fingerprint) → isSet (f .set) ≡ true → rowSound w (rowOf w f) ≡ true
 unfolding rowSound rowOf
-row-sound w f = rw (canonical-is (f .rate)) (test (hasRmax w) (λ e. rw e) (λ e. rw e))
+row-sound w f h = rw (canonical-is (f .rate), h) (test (hasRmax w) (λ e. rw e) (λ e. rw e))
 
 pub hashes-sound : (w : ℕ) (f : Fingerprint) → All (λ h. hashSound w (rowOf w f) h ≡ true) (f .hashes)
 unfolding hashSound rowOf
@@ -60,15 +60,16 @@ module _ (w : ℕ) (w2 : 2 ≤ w) where
       (all-imp (λ e. length e ≡ w - 1) (λ e. 2 + length (drop 1 e) ≡ w) (λ e h. rw length-drop (omega arith)) (entries (w - 1) (hashCount w words) words)
       (wide-entries (w - 1) (hashCount w words) words (mul-div-le (length words) (w - 1))))
 
-  pub wide-divided : (hs : List Hash) (lengths rates : List ℕ) → WideHashes w hs → All (λ f. WideHashes w (f .hashes)) (divided hs lengths rates)
+  pub wide-divided : (hs : List Hash) (lengths rates sets : List ℕ) → WideHashes w hs → All (λ f. WideHashes w (f .hashes)) (divided hs lengths rates sets)
   unfolding divided
-  wide-divided hs [] rates h = tt
-  wide-divided hs (n ∷ lengths) [] h = tt
-  wide-divided hs (n ∷ lengths) (r ∷ rates) h =
-      (all-take (λ g. 2 + length (g .times) ≡ w) n hs h, wide-divided (drop n hs) lengths rates (all-drop (λ g. 2 + length (g .times) ≡ w) n hs h))
+  wide-divided hs [] rates sets h = tt
+  wide-divided hs (n ∷ lengths) [] sets h = tt
+  wide-divided hs (n ∷ lengths) (r ∷ rates) [] h = tt
+  wide-divided hs (n ∷ lengths) (r ∷ rates) (s ∷ sets) h =
+      (all-take (λ g. 2 + length (g .times) ≡ w) n hs h, wide-divided (drop n hs) lengths rates sets (all-drop (λ g. 2 + length (g .times) ≡ w) n hs h))
 
-  pub wide-fingerprints : (words lengths rates : List ℕ) → All (λ f. WideHashes w (f .hashes)) (fingerprintsOf w words lengths rates)
-  wide-fingerprints words lengths rates = wide-divided (hashesOf w words) lengths rates (wide-hashes words)
+  pub wide-fingerprints : (words lengths rates sets : List ℕ) → All (λ f. WideHashes w (f .hashes)) (fingerprintsOf w words lengths rates sets)
+  wide-fingerprints words lengths rates sets = wide-divided (hashesOf w words) lengths rates sets (wide-hashes words)
 
   pub wide-posted : (id : ℕ) (hs : List Hash) → WideHashes w hs → All (λ p. 2 + length (p .hash .times) ≡ w) (posted id hs)
   wide-posted id hs h = all-map (λ g. record { id = id; hash = g }) (λ (p : Posting). 2 + length (p .hash .times) ≡ w) hs h
@@ -85,12 +86,13 @@ pub length-hashes : (w : ℕ) (words : List ℕ) → length (hashesOf w words) �
 unfolding hashesOf
 length-hashes w words = length-read hashOf (w - 1) (hashCount w words) words
 
--- as many fingerprints as lengths, where there are as many rates
-pub length-divided : (hs : List Hash) (lengths rates : List ℕ) → length rates ≡ length lengths → length (divided hs lengths rates) ≡ length lengths
+-- as many fingerprints as lengths, where there are as many rates and sets
+pub length-divided : (hs : List Hash) (lengths rates sets : List ℕ) → length rates ≡ length lengths → length sets ≡ length lengths → length (divided hs lengths rates sets) ≡ length lengths
 unfolding divided
-length-divided hs [] rates h = refl
-length-divided hs (n ∷ lengths) [] h = absurd (omega arith)
-length-divided hs (n ∷ lengths) (r ∷ rates) h = ap suc (length-divided (drop n hs) lengths rates (omega arith))
+length-divided hs [] rates sets h k = refl
+length-divided hs (n ∷ lengths) [] sets h k = absurd (omega arith)
+length-divided hs (n ∷ lengths) (r ∷ rates) [] h k = absurd (omega arith)
+length-divided hs (n ∷ lengths) (r ∷ rates) (s ∷ sets) h k = ap suc (length-divided (drop n hs) lengths rates sets (omega arith) (omega arith))
 
 -- ---- a build's numbering: all hashes in order, each fingerprint's under its own id
 
@@ -103,23 +105,24 @@ hashes-numbered i (f ∷ fs) =
     ∙ ap (λ (l : List Hash). f .hashes ++ l) (hashes-numbered (suc i) fs)
 
 -- the fingerprints have the hashes that the lengths name
-pub flat-divided : (hs : List Hash) (lengths rates : List ℕ) → length rates ≡ length lengths → flat (map (λ f. f .hashes) (divided hs lengths rates)) ≡ take (sum lengths) hs
+pub flat-divided : (hs : List Hash) (lengths rates sets : List ℕ) → length rates ≡ length lengths → length sets ≡ length lengths → flat (map (λ f. f .hashes) (divided hs lengths rates sets)) ≡ take (sum lengths) hs
 unfolding divided flat sum
-flat-divided hs [] rates h = refl
-flat-divided hs (n ∷ lengths) [] h = absurd (omega arith)
-flat-divided hs (n ∷ lengths) (r ∷ rates) h = ap (λ (l : List Hash). take n hs ++ l) (flat-divided (drop n hs) lengths rates (omega arith)) ∙ sym (take-add n (sum lengths) hs)
+flat-divided hs [] rates sets h k = refl
+flat-divided hs (n ∷ lengths) [] sets h k = absurd (omega arith)
+flat-divided hs (n ∷ lengths) (r ∷ rates) [] h k = absurd (omega arith)
+flat-divided hs (n ∷ lengths) (r ∷ rates) (s ∷ sets) h k = ap (λ (l : List Hash). take n hs ++ l) (flat-divided (drop n hs) lengths rates sets (omega arith) (omega arith)) ∙ sym (take-add n (sum lengths) hs)
 
 -- so an accepted build's postings are its hashes, in order
-pub numbered-all : (w : ℕ) (words lengths rates : List ℕ) → length rates ≡ length lengths → sum lengths ≡ hashCount w words
-    → map (λ p. p .hash) (numbered 0 (fingerprintsOf w words lengths rates)) ≡ hashesOf w words
-numbered-all w words lengths rates e s =
-    hashes-numbered 0 (fingerprintsOf w words lengths rates) ∙ flat-divided (hashesOf w words) lengths rates e
+pub numbered-all : (w : ℕ) (words lengths rates sets : List ℕ) → length rates ≡ length lengths → length sets ≡ length lengths → sum lengths ≡ hashCount w words
+    → map (λ p. p .hash) (numbered 0 (fingerprintsOf w words lengths rates sets)) ≡ hashesOf w words
+numbered-all w words lengths rates sets e k s =
+    hashes-numbered 0 (fingerprintsOf w words lengths rates sets) ∙ flat-divided (hashesOf w words) lengths rates sets e k
     ∙ rw (s, ← length-hashes w words) (take-length (hashesOf w words))
 
-pub length-numbered : (w : ℕ) (words lengths rates : List ℕ) → length rates ≡ length lengths → sum lengths ≡ hashCount w words
-    → length (numbered 0 (fingerprintsOf w words lengths rates)) ≡ hashCount w words
-length-numbered w words lengths rates e s =
-    sym (length-map (numbered 0 (fingerprintsOf w words lengths rates)) (λ p. p .hash)) ∙ ap length (numbered-all w words lengths rates e s) ∙ length-hashes w words
+pub length-numbered : (w : ℕ) (words lengths rates sets : List ℕ) → length rates ≡ length lengths → length sets ≡ length lengths → sum lengths ≡ hashCount w words
+    → length (numbered 0 (fingerprintsOf w words lengths rates sets)) ≡ hashCount w words
+length-numbered w words lengths rates sets e k s =
+    sym (length-map (numbered 0 (fingerprintsOf w words lengths rates sets)) (λ p. p .hash)) ∙ ap length (numbered-all w words lengths rates sets e k s) ∙ length-hashes w words
 
 -- ---- "Ids follow order"
 

@@ -18,3 +18,4 @@ pub mod Claim
 pub mod Loading
 pub mod Vacant
 pub mod Alike
+pub mod Sets

@@ -9,13 +9,13 @@ use native.Mathlib.Omega.{arith}
 use lib.ListN.{length, getD, set, length-append, length-take, length-set, length-map, List·getD-append, List·getD-eq-default}
 use lib.Seq.{getD-take, getD-append-seam}
 use lib.Dec.{eqb, ltb}
-use borrow.Author.Tests.{ltb-true, ltb-false, eqb-true, eqb-false, eq-eqb, ne-eqb}
-use Rattle.lists.specs.Lists.{keep, All}
+use borrow.Author.Tests.{ltb-true, ltb-false, eqb-true, eqb-false, eq-eqb, ne-eqb, not-false}
+use Rattle.lists.specs.Lists.{keep, some?, All}
 use Rattle.lists.proofs.Tests.{test, maybe, not-both}
-use Rattle.lists.proofs.Keep.{all-keep, all-kept, all-imp, all-append, all-both, all-set, length-keep, keep-append, keep-no, keep-nil}
+use Rattle.lists.proofs.Keep.{all-keep, all-kept, all-imp, all-append, all-both, all-set, length-keep, keep-append, keep-no, keep-nil, none-pass}
 use Rattle.lists.proofs.Place.{under-keep, sorted-keep, all-placeAll, length-placeAll}
 use Rattle.model.specs.Fingerprints.{Hash, Fingerprint, fingerprintOf, fingerprintsOf, malformed, malformedBuild, referenceMost}
-use Rattle.model.specs.Rows.{Row, rowOf, hashSound}
+use Rattle.model.specs.Rows.{Row, isSet, rowOf, hashSound}
 use Rattle.model.specs.Index.{Posting, Index, empty, keyOf, posted, numbered, unskipped, exceeds, isStopped, placed, postingsAfter, stoppedAfter, withoutId, newId, popped, putRow, isLive, inserted, builtFrom, erased}
 use Rattle.model.specs.Query.{Scheme, Catalog, catalog}
 use Rattle.model.specs.Calls.{Sizes, Store, unlisted, unsound, holds, content, Call, build, insert, remove, liveCount, query, refusal, buildTests, insertTests, plainTests, queryTests, buildStep, insertStep, removeStep, countStep, queryStep, step}
@@ -131,10 +131,10 @@ module _ (w : ℕ) (z : Sizes) (w2 : 2 ≤ w) where
     old : (i : ℕ) → i < length (popped (x .vacant)) → i < length (x .vacant)
     old i lt = omega (arith, below i lt)
 
-    rows-good-after : All (λ o. goodRow w o ≡ true) rows
-    rows-good-after = test (eqb (newId x) (length (x .rows)))
-        (λ e. rw e (all-append (λ o. goodRow w o ≡ true) (x .rows) (some (rowOf w f) ∷ []) (h .rows-good) (row-sound w f, tt)))
-        (λ e. rw e (all-set (λ o. goodRow w o ≡ true) (x .rows) (newId x) (some (rowOf w f)) (row-sound w f) (h .rows-good)))
+    rows-good-after : isSet (f .set) ≡ true → All (λ o. goodRow w o ≡ true) rows
+    rows-good-after ok = test (eqb (newId x) (length (x .rows)))
+        (λ e. rw e (all-append (λ o. goodRow w o ≡ true) (x .rows) (some (rowOf w f) ∷ []) (h .rows-good) (row-sound w f ok, tt)))
+        (λ e. rw e (all-set (λ o. goodRow w o ≡ true) (x .rows) (newId x) (some (rowOf w f)) (row-sound w f ok) (h .rows-good)))
 
     -- an old posting's row is another
     old-good : (p : Posting) → goodHash w (getD (x .rows) (p .id) none) (p .hash) ≡ true → goodHash w (getD rows (p .id) none) (p .hash) ≡ true
@@ -142,15 +142,15 @@ module _ (w : ℕ) (z : Sizes) (w2 : 2 ≤ w) where
         (λ d. let g : goodHash w (getD (x .rows) (p .id) none) (p .hash) ≡ false = rw (eqb-true (p .id) (newId x) d, newId-dead w z x h) in absurd (not-both e g))
         (λ d. rw (row-after (p .id), d) e)
 
-    pub inserted-sound : WideHashes w (f .hashes) → (eqb (length (x .vacant)) 0 && eqb (length (x .rows)) (z .R)) ≡ false
+    pub inserted-sound : WideHashes w (f .hashes) → not (isSet (f .set)) ≡ false → (eqb (length (x .vacant)) 0 && eqb (length (x .rows)) (z .R)) ≡ false
         → ltb (z .P) (length (x .postings) + length (unskipped (isStopped x) new)) ≡ false → ltb (z .K) (length (stoppedAfter limit x new)) ≡ false
         → Sound w z (inserted w limit f x)
     unfolding inserted
-    inserted-sound wide five six seven = record {
+    inserted-sound wide nine five six seven = record {
       rows-fit = rows-fit-after w z x h five (rowOf w f);
       postings-fit = omega (arith, fit-after limit x new, ltb-false (z .P) (length (x .postings) + length (unskipped (isStopped x) new)) six);
       stopped-fit = ltb-false (z .K) (length (stoppedAfter limit x new)) seven;
-      rows-good = rows-good-after;
+      rows-good = rows-good-after (not-false (isSet (f .set)) nine);
       as-many = as-many-after w z x h (rowOf w f);
       within = λ i lt. rw (entry i lt, length-putRow (x .rows) (newId x) (rowOf w f) (newId-le w z x h)) (omega (arith, h .within i (old i lt)));
       dead = λ i lt. rw (entry i lt, row-after (getD (x .vacant) i 0), ne-eqb (getD (x .vacant) i 0) (newId x) (newId-other w z x h i (below i lt))) (h .dead i (old i lt));
@@ -187,9 +187,9 @@ module _ (w : ℕ) (z : Sizes) (w2 : 2 ≤ w) where
   abbrev rowsOf : List Fingerprint → List (Option Row)
   rowsOf fs = map (λ f. some (rowOf w f)) fs
 
-  rows-good-built : (fs : List Fingerprint) → All (λ o. goodRow w o ≡ true) (rowsOf fs)
-  rows-good-built [] = tt
-  rows-good-built (f ∷ fs) = (row-sound w f, rows-good-built fs)
+  rows-good-built : (fs : List Fingerprint) → All (λ f. not (isSet (f .set)) ≡ false) fs → All (λ o. goodRow w o ≡ true) (rowsOf fs)
+  rows-good-built [] h = tt
+  rows-good-built (f ∷ fs) h = (row-sound w f (not-false (isSet (f .set)) (h .0)), rows-good-built fs (h .1))
 
   none-dead : (fs : List Fingerprint) → keep isDead (rowsOf fs) ≡ []
   unfolding keep
@@ -216,14 +216,14 @@ module _ (w : ℕ) (z : Sizes) (w2 : 2 ≤ w) where
       stopped = stops-same limit empty (catalog empty) (agrees-self (catalog empty)) tt (numbered 0 fs);
     }
 
-    pub built-sound : All (λ f. WideHashes w (f .hashes)) fs → ltb (z .R) (length fs) ≡ false → ltb (z .P) (length (numbered 0 fs)) ≡ false
+    pub built-sound : All (λ f. WideHashes w (f .hashes)) fs → some? (λ f. not (isSet (f .set))) fs ≡ false → ltb (z .R) (length fs) ≡ false → ltb (z .P) (length (numbered 0 fs)) ≡ false
         → ltb (z .K) (length (stoppedAfter limit empty (numbered 0 fs))) ≡ false → Sound w z (builtFrom w limit fs)
     unfolding builtFrom
-    built-sound wide five six seven = record {
+    built-sound wide nine five six seven = record {
       rows-fit = omega (arith, length-map fs (λ f. some (rowOf w f)), ltb-false (z .R) (length fs) five);
       postings-fit = omega (arith, fit-after limit empty (numbered 0 fs), length-keep (λ p. not (isStopped empty (keyOf p))) (numbered 0 fs), ltb-false (z .P) (length (numbered 0 fs)) six);
       stopped-fit = ltb-false (z .K) (length (stoppedAfter limit empty (numbered 0 fs))) seven;
-      rows-good = rows-good-built fs;
+      rows-good = rows-good-built fs (none-pass (λ f. not (isSet (f .set))) fs nine);
       as-many = ap length (none-dead fs);
       within = λ i lt. absurd (omega arith);
       dead = λ i lt. absurd (omega arith);
@@ -329,7 +329,7 @@ module _ (w : ℕ) (z : Sizes) (w2 : 2 ≤ w) where
   inv-built s bad limit fs wide e =
       let t = none-applies (buildTests z s bad limit fs) e in
       record {
-        sound = built-sound w z w2 limit fs wide (t 5) (t 6) (t 7);
+        sound = built-sound w z w2 limit fs wide (t 9) (t 5) (t 6) (t 7);
         agrees = built-agrees w z w2 limit fs;
         clean = held-clean limit (catalog empty) (numbered 0 fs) tt;
       }
@@ -340,7 +340,7 @@ module _ (w : ℕ) (z : Sizes) (w2 : 2 ≤ w) where
   inv-inserted s c I bad limit f wide e =
       let t = none-applies (insertTests z s bad limit f) e in
       record {
-        sound = inserted-sound w z w2 limit f (content s) (I .sound) wide (t 5) (t 6) (t 7);
+        sound = inserted-sound w z w2 limit f (content s) (I .sound) wide (t 9) (t 5) (t 6) (t 7);
         agrees = inserted-agrees w z w2 limit f (content s) (I .sound) c (I .agrees);
         clean = held-clean limit c (posted (newId (content s)) (f .hashes)) (I .clean);
       }
@@ -367,13 +367,13 @@ sound-store w z (holds x) h = h
 module _ (S : Scheme) (z : Sizes) (w2 : 2 ≤ S .width) where
   pub step-inv : (s : Store) (c : Catalog) → Inv (S .width) z s c → (x : Call S) → Inv (S .width) z (step S z s x .1) (after S c x (step S z s x .0))
   unfolding buildStep insertStep removeStep countStep queryStep after
-  step-inv s c I (build limit words lengths rates) =
-      maybe (refusal (buildTests z s (malformedBuild (S .width) words lengths rates) limit (fingerprintsOf (S .width) words lengths rates)))
-      (λ e. rw e (inv-built (S .width) z w2 s (malformedBuild (S .width) words lengths rates) limit (fingerprintsOf (S .width) words lengths rates) (wide-fingerprints (S .width) w2 words lengths rates) e))
+  step-inv s c I (build limit words lengths rates sets) =
+      maybe (refusal (buildTests z s (malformedBuild (S .width) words lengths rates sets) limit (fingerprintsOf (S .width) words lengths rates sets)))
+      (λ e. rw e (inv-built (S .width) z w2 s (malformedBuild (S .width) words lengths rates sets) limit (fingerprintsOf (S .width) words lengths rates sets) (wide-fingerprints (S .width) w2 words lengths rates sets) e))
       (λ n e. rw e I)
-  step-inv s c I (insert limit rate words) =
-      maybe (refusal (insertTests z s (malformed (S .width) referenceMost words) limit (fingerprintOf (S .width) rate words)))
-      (λ e. rw e (inv-inserted (S .width) z w2 s c I (malformed (S .width) referenceMost words) limit (fingerprintOf (S .width) rate words) (wide-hashes (S .width) w2 words) e))
+  step-inv s c I (insert limit rate set words) =
+      maybe (refusal (insertTests z s (malformed (S .width) referenceMost words) limit (fingerprintOf (S .width) rate set words)))
+      (λ e. rw e (inv-inserted (S .width) z w2 s c I (malformed (S .width) referenceMost words) limit (fingerprintOf (S .width) rate set words) (wide-hashes (S .width) w2 words) e))
       (λ n e. rw e I)
   step-inv s c I (remove id) = maybe (refusal (plainTests s))
       (λ e. test (isLive (getD (content s .rows) id none)) (λ d. rw (e, d) (inv-erased (S .width) z w2 s c I id d)) (λ d. rw (e, d) I))

@@ -1,7 +1,7 @@
 -- Sound words, read: the index is sound, and laid out again it gives the same words. Assumes nothing.
 use mathlib.Core.Path.{_≡_, refl, sym, ap, _∙_}
 use mathlib.Core.Logic.{⊎-elim}
-use mathlib.Core.Bool.{true, false, not}
+use mathlib.Core.Bool.{true, false, not, _||_}
 use mathlib.Core.List.{List, [], _∷_, map}
 use mathlib.Core.Option.{Option, none, some}
 use Prim.Native.Nat.{ℕ, zero, suc, _+_, _*_, _≤_, _<_}
@@ -21,10 +21,10 @@ use Rattle.lists.proofs.Keep.{some-none, all-make, all-map, all-imp, map-map, m
 use Rattle.lists.proofs.Place.{sorted-map}
 use Rattle.lists.proofs.Ascending.{ascending-make}
 use Rattle.lists.proofs.Entries.{all-entries, entries-at, entry-key, length-entries, entries-fewer, wide-entries, sorted-entries, flat-entries, length-read, read-at, padded-take}
-use Rattle.model.specs.Rows.{Row, hasRmax, noRate, isCanonical, rowSound, hashSound}
+use Rattle.model.specs.Rows.{Row, hasRmax, noRate, isCanonical, isSet, rowSound, hashSound}
 use Rattle.model.specs.Index.{Posting, keyOf, isLive}
 use Rattle.model.specs.Calls.{Sizes}
-use Rattle.model.specs.Words.{Words, rowWords, rowEntries, postingWords, write, readRow, readVacant, readPosting, readIndex, headWidth, rowWidth, atRate, atRmax, atLive, atVacant}
+use Rattle.model.specs.Words.{Words, rowWords, rowEntries, postingWords, write, readRow, readVacant, readPosting, readIndex, headWidth, rowWidth, atRate, atRmax, atLive, atVacant, atSet}
 use Rattle.model.specs.Sound.{isDead, goodRow, goodHash, Sound}
 use Rattle.model.specs.Soundness.{rowWord, postingWord, deadRow, liveId}
 use Rattle.model.proofs.Facts.{Facts, is-dead, not-dead, id-live, id-out, id-dead}
@@ -39,6 +39,7 @@ pub record FineRow (e : List ℕ) : Type 0 where
   pub live : getD e atLive 0 ≤ 1
   pub rate : getD e atLive 0 ≡ 0 → getD e atRate 0 ≡ noRate
   pub rmax : getD e atLive 0 ≡ 0 → getD e atRmax 0 ≡ 0
+  pub set : getD e atLive 0 ≡ 0 → getD e atSet 0 ≡ 0
 
 -- 0 or 1
 bit {ℓ} : {C : Type ℓ} (x : ℕ) → x ≤ 1 → (x ≡ 0 → C) → (x ≡ 1 → C) → C
@@ -51,10 +52,11 @@ row-write [] F = absurd (omega (arith, F .long))
 row-write (a ∷ []) F = absurd (omega (arith, F .long))
 row-write (a ∷ b ∷ []) F = absurd (omega (arith, F .long))
 row-write (a ∷ b ∷ c ∷ []) F = absurd (omega (arith, F .long))
-row-write (a ∷ b ∷ c ∷ d ∷ []) F = bit c (F .live)
-    (λ e. rw (ne-eqb c 1 (λ f. omega arith)) (λ i. sym (F .rate e) i ∷ sym (F .rmax e) i ∷ sym e i ∷ d ∷ []))
-    (λ e. rw (eq-eqb c 1 e) (λ i. a ∷ b ∷ sym e i ∷ d ∷ []))
-row-write (a ∷ b ∷ c ∷ d ∷ x ∷ xs) F = absurd (omega (arith, F .long))
+row-write (a ∷ b ∷ c ∷ d ∷ []) F = absurd (omega (arith, F .long))
+row-write (a ∷ b ∷ c ∷ d ∷ s ∷ []) F = bit c (F .live)
+    (λ e. rw (ne-eqb c 1 (λ f. omega arith)) (λ i. sym (F .rate e) i ∷ sym (F .rmax e) i ∷ sym e i ∷ d ∷ sym (F .set e) i ∷ []))
+    (λ e. rw (eq-eqb c 1 e) (λ i. a ∷ b ∷ sym e i ∷ d ∷ s ∷ []))
+row-write (a ∷ b ∷ c ∷ d ∷ s ∷ x ∷ xs) F = absurd (omega (arith, F .long))
 
 -- rows behind the first v have vacant entry 0
 rows-write : (v : ℕ) (es : List (List ℕ)) → All FineRow es → ((i : ℕ) → v ≤ i → i < length es → readVacant (getD es i []) ≡ 0)
@@ -133,8 +135,8 @@ module _ (w : ℕ) (z : Sizes) (m : Words) (w2 : 2 ≤ w) (refs-long : length (m
     pub vacant-read : (i : ℕ) → i < v → getD vacant i 0 ≡ rowWord rs i atVacant
     vacant-read i h = read-at readVacant rowWidth v (drop headWidth rs) 0 i h ∙ row-word rs i atVacant (omega arith)
 
-    pub live-row : (j : ℕ) → j < n → rowWord rs j atLive ≡ 1 → getD rows j none ≡ some (record { rate = rowWord rs j atRate; rmax = rowWord rs j atRmax })
-    live-row j h e = row-read j h ∙ rw (row-word rs j atLive (omega arith), e, row-word rs j atRate (omega arith), row-word rs j atRmax (omega arith))
+    pub live-row : (j : ℕ) → j < n → rowWord rs j atLive ≡ 1 → getD rows j none ≡ some (record { rate = rowWord rs j atRate; rmax = rowWord rs j atRmax; set = rowWord rs j atSet })
+    live-row j h e = row-read j h ∙ rw (row-word rs j atLive (omega arith), e, row-word rs j atRate (omega arith), row-word rs j atRmax (omega arith), row-word rs j atSet (omega arith))
 
     pub dead-row : (j : ℕ) → j < n → rowWord rs j atLive ≡ 0 → getD rows j none ≡ none
     dead-row j h e = row-read j h ∙ rw (row-word rs j atLive (omega arith), e)
@@ -148,7 +150,8 @@ module _ (w : ℕ) (z : Sizes) (m : Words) (w2 : 2 ≤ w) (refs-long : length (m
     row-good j h = either-row j h
         (λ e. rw (dead-row j h e))
         (λ e. rw (live-row j h e) (both-true (isCanonical (rowWord rs j atRate)) _ (F .rate j h (λ d. omega arith))
-        (test (hasRmax w) (λ d. or-left (hasRmax w) _ d) (λ d. or-right (hasRmax w) _ (eq-eqb (rowWord rs j atRmax) 0 (F .rmax j h d))))))
+        (both-true (hasRmax w || eqb (rowWord rs j atRmax) 0) (isSet (rowWord rs j atSet))
+        (test (hasRmax w) (λ d. or-left (hasRmax w) _ d) (λ d. or-right (hasRmax w) _ (eq-eqb (rowWord rs j atRmax) 0 (F .rmax j h d)))) (F .set j h (λ d. omega arith)))))
 
     dead-same : (j : ℕ) → j < n → isDead (getD rows j none) ≡ deadRow rs j
     dead-same j h = either-row j h
@@ -231,6 +234,7 @@ module _ (w : ℕ) (z : Sizes) (m : Words) (w2 : 2 ≤ w) (refs-long : length (m
           live = rw (row-word rs j atLive (omega arith)) (F .live j l);
           rate = λ e. row-word rs j atRate (omega arith) ∙ F .dead-rate j l (sym (row-word rs j atLive (omega arith)) ∙ e);
           rmax = λ e. row-word rs j atRmax (omega arith) ∙ F .dead-rmax j l (sym (row-word rs j atLive (omega arith)) ∙ e);
+          set = λ e. row-word rs j atSet (omega arith) ∙ F .dead-set j l (sym (row-word rs j atLive (omega arith)) ∙ e);
         }
 
     rows-again : rowEntries rows vacant ≡ entries rowWidth n (drop headWidth rs)

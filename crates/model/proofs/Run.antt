@@ -27,11 +27,11 @@ Left s t = (t ≡ s) ⊎ ((x : Index) × (t ≡ holds x) × (isUnlisted s ≡ fa
 -- what an accepted call leaves
 accepted-left : (S : Scheme) (z : Sizes) (s : Store) (x : Call S) → refusal (stepOf S z s x .tests) ≡ none → Left s (stepOf S z s x .left)
 unfolding buildStep insertStep removeStep countStep queryStep buildTests insertTests plainTests
-accepted-left S z s (build limit words lengths rates) e =
-    let fs = fingerprintsOf (S .width) words lengths rates in
-    inr (builtFrom (S .width) limit fs, refl, none-applies (buildTests z s (malformedBuild (S .width) words lengths rates) limit fs) e 1)
-accepted-left S z s (insert limit rate words) e =
-    let f = fingerprintOf (S .width) rate words in
+accepted-left S z s (build limit words lengths rates sets) e =
+    let fs = fingerprintsOf (S .width) words lengths rates sets in
+    inr (builtFrom (S .width) limit fs, refl, none-applies (buildTests z s (malformedBuild (S .width) words lengths rates sets) limit fs) e 1)
+accepted-left S z s (insert limit rate set words) e =
+    let f = fingerprintOf (S .width) rate set words in
     inr (inserted (S .width) limit f (content s), refl, none-applies (insertTests z s (malformed (S .width) referenceMost words) limit f) e 1)
 accepted-left S z s (remove id) e = test (isLive (getD (content s .rows) id none))
     (λ d. rw d (inr (erased id (content s), refl, none-applies (plainTests s) e 1)))
@@ -64,8 +64,8 @@ remove-no s id e = rw e (outcome-same (refusal (plainTests s)) s (removed false)
 -- an accepted call answers no refusal
 no-refusal : (S : Scheme) (z : Sizes) (s : Store) (x : Call S) → Accepted (stepOf S z s x .answer)
 unfolding buildStep insertStep removeStep countStep queryStep
-no-refusal S z s (build limit words lengths rates) n e = let o : _≡_ {A = ℕ} 0 1 = cc in omega arith
-no-refusal S z s (insert limit rate words) n e = let o : _≡_ {A = ℕ} 0 1 = cc in omega arith
+no-refusal S z s (build limit words lengths rates sets) n e = let o : _≡_ {A = ℕ} 0 1 = cc in omega arith
+no-refusal S z s (insert limit rate set words) n e = let o : _≡_ {A = ℕ} 0 1 = cc in omega arith
 no-refusal S z s (remove id) n e = let o : _≡_ {A = ℕ} 0 1 = cc in omega arith
 no-refusal S z s liveCount n e = let o : _≡_ {A = ℕ} 0 1 = cc in omega arith
 no-refusal S z s (query q) n e = answered (bestOf S q (catalog (content s))) e
@@ -100,8 +100,8 @@ module _ (w : ℕ) (m : Words) (w2 : 2 ≤ w) where
 
 run-is : (S : Scheme) (m : Words) (x : Call S) → run S m x ≡ onWords (S .width) m (step S (sizesOf (S .width) m) (storeOf (S .width) m) x)
 unfolding runBuild runInsert runRemove runCount runQuery
-run-is S m (build limit words lengths rates) = refl
-run-is S m (insert limit rate words) = refl
+run-is S m (build limit words lengths rates sets) = refl
+run-is S m (insert limit rate set words) = refl
 run-is S m (remove id) = refl
 run-is S m liveCount = refl
 run-is S m (query q) = refl

@@ -20,7 +20,7 @@ use Rattle.model.specs.Index.{Posting, Index, keyOf, unskipped, isStoppe
 use Rattle.model.specs.Calls.{Sizes}
 use Rattle.model.specs.Words.{rowWords, rowEntries, postingWords, write, headWidth, rowWidth}
 use Rattle.model.specs.Soundness.{rowWord}
-use Rattle.model.proofs.Words.{four, length-rows, row-at}
+use Rattle.model.proofs.Words.{five, length-rows, row-at}
 use Rattle.model.proofs.Written.{row-word}
 
 -- the first four words and what follows them
@@ -52,7 +52,7 @@ module _ (w : ℕ) (z : Sizes) (x : Index) where
       entry : (j : ℕ) → j < length (x .rows) → entryAt rowWidth j (drop headWidth rs) ≡ rowWords (getD (x .rows) j none) (getD (x .vacant) j 0)
       entry j h =
           let l : length (entryAt rowWidth j (drop headWidth rs)) ≡ rowWidth = length-take-le rowWidth (drop (rowWidth * j) (drop headWidth rs)) (simp length-drop (omega (arith, H .long, H .fit))) in
-          ext-getD 0 (entryAt rowWidth j (drop headWidth rs)) (rowWords (getD (x .rows) j none) (getD (x .vacant) j 0)) (l ∙ sym (four (getD (x .rows) j none) (getD (x .vacant) j 0)))
+          ext-getD 0 (entryAt rowWidth j (drop headWidth rs)) (rowWords (getD (x .rows) j none) (getD (x .vacant) j 0)) (l ∙ sym (five (getD (x .rows) j none) (getD (x .vacant) j 0)))
           (λ f lt. row-word rs j f (omega arith) ∙ H .row j f h (omega arith))
 
       same : entries rowWidth (length (x .rows)) (drop headWidth rs) ≡ rowEntries (x .rows) (x .vacant)

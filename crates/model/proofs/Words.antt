@@ -19,9 +19,9 @@ use Rattle.model.specs.Words.{sizesOf, rowWords, rowEntries, postingWord
 
 -- ---- rows
 
-pub four : (o : Option Row) (e : ℕ) → length (rowWords o e) ≡ rowWidth
-four none e = refl
-four (some r) e = refl
+pub five : (o : Option Row) (e : ℕ) → length (rowWords o e) ≡ rowWidth
+five none e = refl
+five (some r) e = refl
 
 row-again : (o : Option Row) (e : ℕ) → readRow (rowWords o e) ≡ o
 row-again none e = refl
@@ -34,8 +34,8 @@ entry-again (some x) e = refl
 pub wide-rows : (os : List (Option Row)) (es : List ℕ) → Wide rowWidth (rowEntries os es)
 unfolding rowEntries
 wide-rows [] es = tt
-wide-rows (o ∷ os) [] = (four o 0, wide-rows os [])
-wide-rows (o ∷ os) (e ∷ es) = (four o e, wide-rows os es)
+wide-rows (o ∷ os) [] = (five o 0, wide-rows os [])
+wide-rows (o ∷ os) (e ∷ es) = (five o e, wide-rows os es)
 
 pub length-rows : (os : List (Option Row)) (es : List ℕ) → length (rowEntries os es) ≡ length os
 unfolding rowEntries

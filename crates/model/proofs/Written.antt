@@ -1,7 +1,7 @@
 -- A sound index, laid out: the words pass every test of soundness. Assumes nothing.
 use mathlib.Core.Path.{_≡_, refl, sym, ap, _∙_, subst}
 use mathlib.Core.Logic.{⊎-elim}
-use mathlib.Core.Bool.{true, false, not}
+use mathlib.Core.Bool.{true, false, not, _||_}
 use mathlib.Core.List.{List, [], map}
 use mathlib.Core.Option.{Option, none, some}
 use Prim.Native.Nat.{ℕ, _+_, _*_, _≤_, _<_}
@@ -20,10 +20,10 @@ use Rattle.lists.proofs.Keep.{length-keep, none-pass, all-at, all-imp, all-map,
 use Rattle.lists.proofs.Place.{sorted-map}
 use Rattle.lists.proofs.Ascending.{ascending-at}
 use Rattle.lists.proofs.Entries.{entries-at, entry-word, entry-key, entries-sorted}
-use Rattle.model.specs.Rows.{Row, hasRmax, noRate, isCanonical, rowSound, hashSound, anchor}
+use Rattle.model.specs.Rows.{Row, hasRmax, noRate, isCanonical, isSet, rowSound, hashSound, anchor}
 use Rattle.model.specs.Index.{Posting, Index, isStopped}
 use Rattle.model.specs.Calls.{Sizes}
-use Rattle.model.specs.Words.{rowWords, postingWords, write, headWidth, rowWidth, rowPlace, atRate, atRmax, atLive, atVacant}
+use Rattle.model.specs.Words.{rowWords, postingWords, write, headWidth, rowWidth, rowPlace, atRate, atRmax, atLive, atVacant, atSet}
 use Rattle.model.specs.Sound.{isDead, goodRow, goodHash, Sound}
 use Rattle.model.specs.Soundness.{rowWord, postingWord, deadRow, soundWords}
 use Rattle.model.proofs.Words.{row-at, header-rows, header-vacant, header-postings, header-stopped, written-rows, written-postings, written-stopped, unused-rows, unused-postings, unused-stopped, sizes-written}
@@ -72,7 +72,16 @@ rate-word w (some r) e g h = and-left (isCanonical (r .rate)) _ g
 rmax-word : (w : ℕ) (o : Option Row) (e : ℕ) → goodRow w o ≡ true → hasRmax w ≡ false → getD (rowWords o e) atRmax 0 ≡ 0
 unfolding rowSound
 rmax-word w none e g h = refl
-rmax-word w (some r) e g h = eqb-true (r .rmax) 0 (or-else (hasRmax w) (eqb (r .rmax) 0) (and-right (isCanonical (r .rate)) _ g) h)
+rmax-word w (some r) e g h = eqb-true (r .rmax) 0 (or-else (hasRmax w) (eqb (r .rmax) 0) (and-left (hasRmax w || eqb (r .rmax) 0) _ (and-right (isCanonical (r .rate)) _ g)) h)
+
+dead-set-word : (o : Option Row) (e : ℕ) → getD (rowWords o e) atLive 0 ≡ 0 → getD (rowWords o e) atSet 0 ≡ 0
+dead-set-word none e h = refl
+dead-set-word (some r) e h = absurd (omega arith)
+
+set-word : (w : ℕ) (o : Option Row) (e : ℕ) → goodRow w o ≡ true → (getD (rowWords o e) atLive 0 ≡ 0 → ⊥) → isSet (getD (rowWords o e) atSet 0) ≡ true
+unfolding rowSound
+set-word w none e g h = absurd (h refl)
+set-word w (some r) e g h = and-right (hasRmax w || eqb (r .rmax) 0) (isSet (r .set)) (and-right (isCanonical (r .rate)) _ g)
 
 dead-test : (o : Option Row) (e : ℕ) → eqb (getD (rowWords o e) atLive 0) 0 ≡ isDead o
 dead-test none e = refl
@@ -194,6 +203,8 @@ module _ (w : ℕ) (z : Sizes) (x : Index) (w2 : 2 ≤ w) (h : Sound w z x) wher
     entries-unused = λ i le lt. vacant-is i lt ∙ List·getD-eq-default (x .vacant) 0 le;
     postings-unused = unused-postings w z x fewer (h .wide);
     stopped-unused = unused-stopped w z x fewer (h .wide);
+    dead-set = λ j lt e. row-is j atSet lt (omega arith) ∙ dead-set-word (getD (x .rows) j none) (getD (x .vacant) j 0) (sym (row-is j atLive lt (omega arith)) ∙ e);
+    set = λ j lt e. rw (row-is j atSet lt (omega arith)) (set-word w (getD (x .rows) j none) (getD (x .vacant) j 0) (good j lt) (λ d. e (row-is j atLive lt (omega arith) ∙ d)));
   }
 
   pub written-sound : soundWords w (write w z x) ≡ true

@@ -1,12 +1,14 @@
 -- The five calls: what each answers and leaves, refused ones included. Definitions only. Assumes nothing.
 use mathlib.Core.Bool.{Bool, true, false, cond, not, _&&_, _||_}
-use mathlib.Core.List.{List, [], _∷_}
+use mathlib.Core.List.{List, [], _∷_, _++_}
 use mathlib.Core.Option.{Option, none, some}
 use Prim.Native.Nat.{ℕ, _+_, _-_, _/_, _%_}
 use lib.ListN.{length, getD}
 use lib.Dec.{eqb, leb, ltb}
+use Rattle.lists.specs.Lists.{some?}
 use Rattle.matching.specs.declared.MatchResult.{MatchResult}
 use Rattle.model.specs.Fingerprints.{Fingerprint, fingerprintOf, fingerprintsOf, referenceMost, queryMost, malformed, malformedBuild}
+use Rattle.model.specs.Rows.{setMost, isSet}
 use Rattle.model.specs.Index.{Index, empty, posted, numbered, unskipped, isStopped, stoppedAfter, newId, isLive, inserted, builtFrom, erased}
 use Rattle.model.specs.Query.{Scheme, Query, catalog, tooManyVotes, bestOf}
 
@@ -47,10 +49,10 @@ pub data Answer : Type 0 where
   nothing : Answer
   refused : ℕ → Answer
 
--- a call with what is lent to it beside the store: the stop limit, the words of hashes, their lengths, rates as words
+-- a call with what is lent to it beside the store: the stop limit, the words of hashes, their lengths, rates as words, sets
 pub data Call (S : Scheme) : Type 0 where
-  build : (limit : ℕ) (words lengths rates : List ℕ) → Call S
-  insert : (limit rate : ℕ) (words : List ℕ) → Call S
+  build : (limit : ℕ) (words lengths rates sets : List ℕ) → Call S
+  insert : (limit rate set : ℕ) (words : List ℕ) → Call S
   remove : (id : ℕ) → Call S
   liveCount : Call S
   query : Query S → Call S
@@ -67,11 +69,12 @@ abbrev pub numberOf : Option ℕ → ℕ
 numberOf none = 0
 numberOf (some n) = n
 
--- "build: more than R references"; "build: p = 0, nothing stopped"; "stopped keys after the call would exceed K"
+-- "a set of 0 or above 255 on insert or build"; "build: more than R references"; "build: p = 0, nothing stopped"; "stopped keys after the call would exceed K"
 unfoldable pub buildTests : Sizes → Store → Bool → ℕ → List Fingerprint → List (ℕ × Bool)
 buildTests z s bad limit fs =
     (1, isUnlisted s)
     ∷ (3, bad)
+    ∷ (9, some? (λ f. not (isSet (f .set))) fs)
     ∷ (5, ltb (z .R) (length fs))
     ∷ (6, ltb (z .P) (length (numbered 0 fs)))
     ∷ (7, ltb (z .K) (length (stoppedAfter limit empty (numbered 0 fs))))
@@ -85,6 +88,7 @@ insertTests z s bad limit f =
     (1, isUnlisted s)
     ∷ (2, isUnsound s)
     ∷ (3, bad)
+    ∷ (9, not (isSet (f .set)))
     ∷ (5, eqb (length (x .vacant)) 0 && eqb (length (x .rows)) (z .R))
     ∷ (6, ltb (z .P) (length (x .postings) + length (unskipped (isStopped x) new)))
     ∷ (7, ltb (z .K) (length (stoppedAfter limit x new)))
@@ -98,13 +102,21 @@ plainTests s = (1, isUnlisted s) ∷ (2, isUnsound s) ∷ []
 unfoldable pub scratchListed : ℕ → ℕ → Bool
 scratchListed v n = eqb (n % v) 0 && leb (n / v) 1000000
 
+-- before a query's votes are counted: w is the width of a posting, v the words of scratch that a vote takes, n the length of the scratch;
+-- `beyond` says whether a setting is beyond its limit. "and a set above 255 on a query"
+unfoldable pub earlyTests : ℕ → ℕ → Store → ℕ → List ℕ → Bool → ℕ → List (ℕ × Bool)
+earlyTests w v s n words beyond set =
+    (1, isUnlisted s || not (scratchListed v n))
+    ∷ (2, isUnsound s)
+    ∷ (3, malformed w queryMost words)
+    ∷ (4, beyond)
+    ∷ (9, ltb setMost set)
+    ∷ []
+
 unfoldable pub queryTests : (S : Scheme) → Store → Query S → List (ℕ × Bool)
 queryTests S s q =
-    (1, isUnlisted s || not (scratchListed (S .voteWords) (q .scratch)))
-    ∷ (2, isUnsound s)
-    ∷ (3, malformed (S .width) queryMost (q .words))
-    ∷ (4, S .beyond (q .ask))
-    ∷ (8, tooManyVotes S q (catalog (content s)))
+    earlyTests (S .width) (S .voteWords) s (q .scratch) (q .words) (S .beyond (q .ask)) (q .set)
+    ++ (8, tooManyVotes S q (catalog (content s)))
     ∷ []
 
 -- ── what each call answers and leaves ──
@@ -124,14 +136,14 @@ pub record Step : Type 0 where
   pub left : Store
 
 -- "`build` overwrites any content."
-unfoldable pub buildStep : ℕ → Sizes → Store → ℕ → List ℕ → List ℕ → List ℕ → Step
-buildStep w z s limit words lengths rates =
-    let fs = fingerprintsOf w words lengths rates in
-    record { tests = buildTests z s (malformedBuild w words lengths rates) limit fs; answer = built; left = holds (builtFrom w limit fs) }
+unfoldable pub buildStep : ℕ → Sizes → Store → ℕ → List ℕ → List ℕ → List ℕ → List ℕ → Step
+buildStep w z s limit words lengths rates sets =
+    let fs = fingerprintsOf w words lengths rates sets in
+    record { tests = buildTests z s (malformedBuild w words lengths rates sets) limit fs; answer = built; left = holds (builtFrom w limit fs) }
 
-unfoldable pub insertStep : ℕ → Sizes → Store → ℕ → ℕ → List ℕ → Step
-insertStep w z s limit rate words =
-    let f = fingerprintOf w rate words in
+unfoldable pub insertStep : ℕ → Sizes → Store → ℕ → ℕ → ℕ → List ℕ → Step
+insertStep w z s limit rate set words =
+    let f = fingerprintOf w rate set words in
     record {
       tests = insertTests z s (malformed w referenceMost words) limit f;
       answer = stored (newId (content s));
@@ -158,8 +170,8 @@ unfoldable pub queryStep : (S : Scheme) → Store → Query S → Step
 queryStep S s q = record { tests = queryTests S s q; answer = answerOf (bestOf S q (catalog (content s))); left = s }
 
 abbrev pub stepOf : (S : Scheme) → Sizes → Store → Call S → Step
-stepOf S z s (build limit words lengths rates) = buildStep (S .width) z s limit words lengths rates
-stepOf S z s (insert limit rate words) = insertStep (S .width) z s limit rate words
+stepOf S z s (build limit words lengths rates sets) = buildStep (S .width) z s limit words lengths rates sets
+stepOf S z s (insert limit rate set words) = insertStep (S .width) z s limit rate set words
 stepOf S z s (remove id) = removeStep s id
 stepOf S z s liveCount = countStep s
 stepOf S z s (query q) = queryStep S s q

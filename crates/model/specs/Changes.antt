@@ -1,4 +1,4 @@
--- Worked examples of demand 3, for any scheme: what one call does to the answer of one query. The table is one; an index gives the hashes
+-- Worked examples of demand 3, for any scheme: what one call does to the answer of a query for a set. The table is one; an index gives the hashes
 -- and the query (its specs/Examples.antt), and the answers are computed from the definitions, soundness and layout of the words included.
 -- Definitions only. Assumes nothing.
 use mathlib.Core.Bool.{Bool, true, false, _&&_}
@@ -34,17 +34,17 @@ abbrev pub rate : ℕ
 rate = 0x427A_0000
 
 module _ (S : Scheme) where
-  -- the words of three recordings' hashes, and a query at `rate` that meets the first by both of its hashes, the second by one, the third by
-  -- none. Both hashes of the first have other keys, the first hash's key being the second's too.
+  -- the words of three recordings' hashes, and a query for a set, at `rate`, that meets the first by both of its hashes, the second by one, the
+  -- third by none. Both hashes of the first have other keys, the first hash's key being the second's too.
   pub record Material : Type 0 where
     pub both : List ℕ
     pub one : List ℕ
     pub other : List ℕ
-    pub probe : Query S
+    pub probe : ℕ → Query S
 
   pub data Example : Type 0 where
-    -- after these calls; the next call; what the query answers before it, and after it
-    change : List (Call S) → Call S → Option (ℕ × ℕ) → Option (ℕ × ℕ) → Example
+    -- after these calls; the next call; what the query for a set answers before it, and after it
+    change : ℕ → List (Call S) → Call S → Option (ℕ × ℕ) → Option (ℕ × ℕ) → Example
 
   -- zeroed slices: R 3, P 6, K 2
   abbrev pub blank : Words
@@ -53,39 +53,55 @@ module _ (S : Scheme) where
   abbrev pub answer : Query S → List (Call S) → Option (ℕ × ℕ)
   answer q calls = bestAndVotes (run S (leaves S (run S) blank calls) (query q) .0)
 
-  abbrev pub right : Query S → Example → Bool
-  right q (change before x was is) = same (answer q before) was && same (answer q (before ++ x ∷ [])) is
+  abbrev pub right : (ℕ → Query S) → Example → Bool
+  right q (change set before x was is) = same (answer (q set) before) was && same (answer (q set) (before ++ x ∷ [])) is
 
-  abbrev pub all : Query S → List Example → Bool
+  abbrev pub all : (ℕ → Query S) → List Example → Bool
   all q [] = true
   all q (e ∷ es) = right q e && all q es
 
+  -- under set 1, the infants', and under set 2, the juniors'
   abbrev pub store : List ℕ → Call S
-  store hashes = insert 100 rate hashes
+  store hashes = insert 100 rate 1 hashes
+
+  abbrev pub storeJunior : List ℕ → Call S
+  storeJunior hashes = insert 100 rate 2 hashes
 
   abbrev pub table : Material → List Example
   table t =
       -- a newcomer that wins: two votes against one
-      change (store (t .one) ∷ []) (store (t .both)) (some (0, 1)) (some (1, 2))
+      change 0 (store (t .one) ∷ []) (store (t .both)) (some (0, 1)) (some (1, 2))
       -- one that loses
-      ∷ change (store (t .both) ∷ []) (store (t .one)) (some (0, 2)) (some (0, 2))
+      ∷ change 0 (store (t .both) ∷ []) (store (t .one)) (some (0, 2)) (some (0, 2))
       -- one that ties and has the higher id: the old answer stays
-      ∷ change (store (t .both) ∷ []) (store (t .both)) (some (0, 2)) (some (0, 2))
+      ∷ change 0 (store (t .both) ∷ []) (store (t .both)) (some (0, 2)) (some (0, 2))
       -- one that ties and has the lower id, since 0 was vacated: it is the answer
-      ∷ change (store (t .other) ∷ store (t .both) ∷ remove 0 ∷ []) (store (t .both)) (some (1, 2)) (some (0, 2))
+      ∷ change 0 (store (t .other) ∷ store (t .both) ∷ remove 0 ∷ []) (store (t .both)) (some (1, 2)) (some (0, 2))
       -- one without a vote
-      ∷ change (store (t .both) ∷ []) (store (t .other)) (some (0, 2)) (some (0, 2))
+      ∷ change 0 (store (t .both) ∷ []) (store (t .other)) (some (0, 2)) (some (0, 2))
       -- the first of all
-      ∷ change [] (store (t .one)) none (some (0, 1))
+      ∷ change 0 [] (store (t .one)) none (some (0, 1))
       -- the removal of another recording, and of the one that was the answer
-      ∷ change (store (t .both) ∷ store (t .one) ∷ []) (remove 1) (some (0, 2)) (some (0, 2))
-      ∷ change (store (t .both) ∷ store (t .one) ∷ []) (remove 0) (some (0, 2)) (some (1, 1))
+      ∷ change 0 (store (t .both) ∷ store (t .one) ∷ []) (remove 1) (some (0, 2)) (some (0, 2))
+      ∷ change 0 (store (t .both) ∷ store (t .one) ∷ []) (remove 0) (some (0, 2)) (some (1, 1))
       -- an insert that stops the second's key, on which recording 0 holds a hash: the premise fails, and the old answer changes
-      ∷ change (store (t .both) ∷ []) (insert 1 rate (t .one)) (some (0, 2)) (some (0, 1))
+      ∷ change 0 (store (t .both) ∷ []) (insert 1 rate 1 (t .one)) (some (0, 2)) (some (0, 1))
       -- an insert that is refused: no row is left
-      ∷ change (store (t .both) ∷ store (t .both) ∷ store (t .one) ∷ []) (store (t .both)) (some (0, 2)) (some (0, 2))
+      ∷ change 0 (store (t .both) ∷ store (t .both) ∷ store (t .one) ∷ []) (store (t .both)) (some (0, 2)) (some (0, 2))
       -- a build, after which what was stored before is gone
-      ∷ change (store (t .both) ∷ []) (build 100 (t .one ++ t .both) (1 ∷ 2 ∷ []) (rate ∷ rate ∷ [])) (some (0, 2)) (some (1, 2))
+      ∷ change 0 (store (t .both) ∷ []) (build 100 (t .one ++ t .both) (1 ∷ 2 ∷ []) (rate ∷ rate ∷ []) (1 ∷ 1 ∷ [])) (some (0, 2)) (some (1, 2))
+      -- an infants' list that wins among all, and the juniors' answer, which it doesn't touch
+      ∷ change 0 (storeJunior (t .one) ∷ []) (store (t .both)) (some (0, 1)) (some (1, 2))
+      ∷ change 2 (storeJunior (t .one) ∷ []) (store (t .both)) (some (0, 1)) (some (0, 1))
+      -- of a set that holds nothing there is no answer
+      ∷ change 3 (storeJunior (t .one) ∷ []) (store (t .both)) none none
+      -- an insert elsewhere that stops a key on which this set holds a hash: the premise fails, and the answer changes
+      ∷ change 2 (storeJunior (t .both) ∷ []) (insert 1 rate 1 (t .one)) (some (0, 2)) (some (0, 1))
+      -- one that stops a key which only the other set holds: the answer stays
+      ∷ change 2 (store (t .other) ∷ storeJunior (t .both) ∷ []) (insert 1 rate 1 (t .other)) (some (1, 2)) (some (1, 2))
+      -- a set of 0, and one above 255, are refused, and nothing is stored
+      ∷ change 0 (store (t .one) ∷ []) (insert 100 rate 0 (t .both)) (some (0, 1)) (some (0, 1))
+      ∷ change 0 (store (t .one) ∷ []) (insert 100 rate 256 (t .both)) (some (0, 1)) (some (0, 1))
       ∷ []
 
   abbrev pub allRight : Material → Bool

@@ -4,10 +4,11 @@
 -- held and stopped before and after each call is the history's catalog (History): it is made from what the words said at first, and
 -- from the calls and their answers. Then, wherever in the list:
 --
---   insert   If a call of insert answers that it stored a recording as id, and it stopped no key on which another live recording
---            held a hash, then any query that is accepted before the call and after it answers after it what it answered before, or
---            best with id; and best with id exactly if the new recording has a vote, passes every gate, and ranks above the
---            answer before (or that answer was none). Its votes, gates and result come from what it holds, its row and the query.
+--   insert   If a call of insert answers that it stored a recording as id, then any query that is accepted before the call and after it,
+--            and of whose set no other live recording lost a hash because the call stopped its key, answers after it what it answered
+--            before, or best with id; and best with id exactly if the new recording is of the query's set, has a vote, passes every
+--            gate, and ranks above the answer before (or that answer was none). Its votes, gates and result come from what it holds,
+--            its row and the query. So where it is of another set, the answer is the one before, to the bit (`Elsewhere` in Sets).
 --   remove   If a call of remove answers yes for id, then any query that was accepted before, and not answered with id, is accepted
 --            after and has the same answer.
 --
@@ -17,7 +18,7 @@ use mathlib.Core.Path.{_≡_}
 use mathlib.Core.Logic.{_⊎_}
 use mathlib.Core.Bool.{Bool, true, false, not, _&&_, _||_}
 use mathlib.Core.List.{List, [], _∷_, _++_}
-use mathlib.Core.Option.{some}
+use mathlib.Core.Option.{Option, some}
 use Prim.Native.Nat.{ℕ}
 use lib.Dec.{ltb}
 use Rattle.lists.specs.Lists.{none?}
@@ -26,7 +27,7 @@ use Rattle.matching.specs.declared.MatchResult.{MatchResult}
 use Rattle.matching.specs.Results.{better}
 use Rattle.model.specs.Rows.{Row}
 use Rattle.model.specs.Index.{keyOf, ofId, isLive}
-use Rattle.model.specs.Query.{Scheme, Query, Catalog, catalog, hashes, votes}
+use Rattle.model.specs.Query.{Scheme, Query, Catalog, catalog, asked, hashes, votes}
 use Rattle.model.specs.Calls.{content, Call, build, insert, remove, liveCount, query, Answer, stored, removed, best, nothing, refused}
 use Rattle.model.specs.Words.{Words}
 use Rattle.model.specs.Run.{storeOf, run}
@@ -39,16 +40,20 @@ Accepted a = (n : ℕ) → a ≡ refused n → ⊥
 abbrev pub ranksAbove : MatchResult → ℕ → MatchResult → ℕ → Bool
 ranksAbove r i t j = better r t || (not (better t r) && ltb i j)
 
--- from catalog c to catalog d no key is stopped on which a live recording other than id holds a hash
-abbrev pub KeysKept : Catalog → Catalog → ℕ → Type 0
-KeysKept c d id =
-    (j k : ℕ) → isLive (c .live j) ≡ true → (j ≡ id → ⊥) → hasKey keyOf k (ofId j (c .held)) ≡ true → c .stopped k ≡ false → d .stopped k ≡ true → ⊥
+-- "only recordings of the query's set vote, and only their keys must stay unstopped": is a recording with this row one of them?
+abbrev pub isConcerned : ℕ → Option Row → Bool
+isConcerned set o = isLive (asked set o)
+
+-- from catalog c to catalog d no key is stopped on which such a recording, other than id, holds a hash
+abbrev pub KeysKept : ℕ → Catalog → Catalog → ℕ → Type 0
+KeysKept set c d id =
+    (j k : ℕ) → isConcerned set (c .live j) ≡ true → (j ≡ id → ⊥) → hasKey keyOf k (ofId j (c .held)) ≡ true → c .stopped k ≡ false → d .stopped k ≡ true → ⊥
 
 module _ (S : Scheme) where
-  -- recording id has a vote, passes every gate with result r, and the old answer was none or ranks below
+  -- recording id is of the query's set, has a vote, passes every gate with result r, and the old answer was none or ranks below
   pub record BecomesBest (q : Query S) (d : Catalog) (id : ℕ) (old : Answer) (r : MatchResult) : Type 0 where
     pub row : Row
-    pub live : d .live id ≡ some row
+    pub live : asked (q .set) (d .live id) ≡ some row
     pub vote : none? (votes S q (ofId id (d .held))) ≡ false
     pub passes : S .judge (q .ask) (hashes S q) row (votes S q (ofId id (d .held))) ≡ some r
     pub ranks : (old ≡ nothing) ⊎ ((j : ℕ) × (t : MatchResult) × (old ≡ best j t) × (ranksAbove r id t j ≡ true))
@@ -65,7 +70,7 @@ module _ (S : Scheme) where
 
   -- what is claimed of a stored recording id, from the replies before and after and the catalogs before and after
   abbrev pub AfterInsert : Replies → Replies → Catalog → Catalog → ℕ → Type 0
-  AfterInsert old new c d id = KeysKept c d id → (q : Query S) → Accepted (old q) → Accepted (new q) → OldOrNew q d id (old q) (new q)
+  AfterInsert old new c d id = (q : Query S) → KeysKept (q .set) c d id → Accepted (old q) → Accepted (new q) → OldOrNew q d id (old q) (new q)
 
   -- and of a removed one
   abbrev pub AfterRemove : Replies → Replies → ℕ → Type 0
@@ -73,9 +78,9 @@ module _ (S : Scheme) where
 
   -- at a call that was answered a
   abbrev pub ClaimedAt : Replies → Replies → Catalog → Catalog → Answer → Call S → Type 0
-  ClaimedAt old new c d a (insert limit rate words) = (id : ℕ) → a ≡ stored id → AfterInsert old new c d id
+  ClaimedAt old new c d a (insert limit rate set words) = (id : ℕ) → a ≡ stored id → AfterInsert old new c d id
   ClaimedAt old new c d a (remove id) = a ≡ removed true → AfterRemove old new id
-  ClaimedAt old new c d a (build limit words lengths rates) = Unit {0}
+  ClaimedAt old new c d a (build limit words lengths rates sets) = Unit {0}
   ClaimedAt old new c d a liveCount = Unit {0}
   ClaimedAt old new c d a (query q) = Unit {0}
 

@@ -13,9 +13,10 @@ pub record Hash : Type 0 where
   pub key : ℕ
   pub times : List ℕ
 
--- a recording's fingerprint: the word of its rate's bits, and its hashes in order
+-- a recording's fingerprint: the word of its rate's bits, its set, and its hashes in order
 pub record Fingerprint : Type 0 where
   pub rate : ℕ
+  pub set : ℕ
   pub hashes : List Hash
 
 abbrev pub hashOf : List ℕ → Hash
@@ -28,17 +29,18 @@ unfoldable pub hashesOf : ℕ → List ℕ → List Hash
 hashesOf w words = map hashOf (entries (w - 1) (hashCount w words) words)
 
 -- an insert's fingerprint
-abbrev pub fingerprintOf : ℕ → ℕ → List ℕ → Fingerprint
-fingerprintOf w rate words = record { rate = rate; hashes = hashesOf w words }
+abbrev pub fingerprintOf : ℕ → ℕ → ℕ → List ℕ → Fingerprint
+fingerprintOf w rate set words = record { rate = rate; set = set; hashes = hashesOf w words }
 
--- a build's: "`build` takes all hashes in one slice, plus lengths and rates"
-unfoldable pub divided : List Hash → List ℕ → List ℕ → List Fingerprint
-divided hs [] rates = []
-divided hs (n ∷ lengths) [] = []
-divided hs (n ∷ lengths) (r ∷ rates) = record { rate = r; hashes = take n hs } ∷ divided (drop n hs) lengths rates
+-- a build's: "`build` takes all hashes in one slice, plus lengths and rates", and a set "for each reference"
+unfoldable pub divided : List Hash → List ℕ → List ℕ → List ℕ → List Fingerprint
+divided hs [] rates sets = []
+divided hs (n ∷ lengths) [] sets = []
+divided hs (n ∷ lengths) (r ∷ rates) [] = []
+divided hs (n ∷ lengths) (r ∷ rates) (s ∷ sets) = record { rate = r; set = s; hashes = take n hs } ∷ divided (drop n hs) lengths rates sets
 
-abbrev pub fingerprintsOf : ℕ → List ℕ → List ℕ → List ℕ → List Fingerprint
-fingerprintsOf w words lengths rates = divided (hashesOf w words) lengths rates
+abbrev pub fingerprintsOf : ℕ → List ℕ → List ℕ → List ℕ → List ℕ → List Fingerprint
+fingerprintsOf w words lengths rates sets = divided (hashesOf w words) lengths rates sets
 
 -- "Reference fingerprint 0 to 8,192 hashes, query 0 to 2,048"
 abbrev pub referenceMost : ℕ
@@ -54,9 +56,10 @@ uneven w words = not (eqb (length words % (w - 1)) 0)
 unfoldable pub malformed : ℕ → ℕ → List ℕ → Bool
 malformed w most words = uneven w words || ltb most (hashCount w words)
 
--- "too many hashes (in build, in any one reference); in build, rates and lengths differ in number or lengths don't add up to the hashes"
-unfoldable pub malformedBuild : ℕ → List ℕ → List ℕ → List ℕ → Bool
-malformedBuild w words lengths rates =
+-- "too many hashes (in build, in any one reference); in build, rates and lengths differ in number or lengths don't add up to the hashes";
+-- "build takes one for each reference, and a count that differs is refusal 3"
+unfoldable pub malformedBuild : ℕ → List ℕ → List ℕ → List ℕ → List ℕ → Bool
+malformedBuild w words lengths rates sets =
     uneven w words
     || (some? (λ n. ltb referenceMost n) lengths
-    || (not (eqb (length rates) (length lengths)) || not (eqb (sum lengths) (hashCount w words))))
+    || (not (eqb (length rates) (length lengths)) || (not (eqb (length sets) (length lengths)) || not (eqb (sum lengths) (hashCount w words)))))

@@ -91,8 +91,8 @@ withRecordingIf w limit f none c = c
 withRecordingIf w limit f (some id) c = withRecording w limit f id c
 
 unfoldable pub after : (S : Scheme) → Catalog → Call S → Answer → Catalog
-after S c (build limit words lengths rates) a = cond (isBuilt a) (fromBuild (S .width) limit (fingerprintsOf (S .width) words lengths rates)) c
-after S c (insert limit rate words) a = withRecordingIf (S .width) limit (fingerprintOf (S .width) rate words) (storedId a) c
+after S c (build limit words lengths rates sets) a = cond (isBuilt a) (fromBuild (S .width) limit (fingerprintsOf (S .width) words lengths rates sets)) c
+after S c (insert limit rate set words) a = withRecordingIf (S .width) limit (fingerprintOf (S .width) rate set words) (storedId a) c
 after S c (remove id) a = cond (isRemoved a) (withoutRecording id c) c
 after S c liveCount a = c
 after S c (query q) a = c
@@ -120,8 +120,8 @@ history S run c t calls = replay S c calls (answers S run t calls)
 
 -- what an accepted call answers, the catalog being c
 abbrev pub answerFrom : (S : Scheme) → Catalog → Call S → Answer
-answerFrom S c (build limit words lengths rates) = built
-answerFrom S c (insert limit rate words) = stored (nextId (c .vacant) (c .size))
+answerFrom S c (build limit words lengths rates sets) = built
+answerFrom S c (insert limit rate set words) = stored (nextId (c .vacant) (c .size))
 answerFrom S c (remove id) = removed (isLive (c .live id))
 answerFrom S c liveCount = count (c .size - length (c .vacant))
 answerFrom S c (query q) = answerOf (bestOf S q c)

@@ -12,18 +12,19 @@ use Rattle.model.specs.Run.{run}
 use Rattle.model.specs.History.{leaves, answers}
 use Rattle.model.specs.Claim.{Accepted}
 
--- what is to be stored: the word of its rate's bits, and the words of its hashes
+-- what is to be stored: the word of its rate's bits, its set, and the words of its hashes
 pub record Recording : Type 0 where
   pub rate : ℕ
+  pub set : ℕ
   pub words : List ℕ
 
 -- one insert for each recording, in order, under one limit
 abbrev pub inserts : (S : Scheme) → ℕ → List Recording → List (Call S)
-inserts S limit rs = map (λ r. insert limit (r .rate) (r .words)) rs
+inserts S limit rs = map (λ r. insert limit (r .rate) (r .set) (r .words)) rs
 
 -- one build for all
 abbrev pub oneBuild : (S : Scheme) → ℕ → List Recording → Call S
-oneBuild S limit rs = build limit (flat (map (λ r. r .words) rs)) (map (λ r. hashCount (S .width) (r .words)) rs) (map (λ r. r .rate) rs)
+oneBuild S limit rs = build limit (flat (map (λ r. r .words) rs)) (map (λ r. hashCount (S .width) (r .words)) rs) (map (λ r. r .rate) rs) (map (λ r. r .set) rs)
 
 -- "a store of the same sizes with every word zero"
 abbrev pub blank : Words → Words

@@ -5,13 +5,13 @@ use mathlib.Core.Option.{Option, none, some}
 use Prim.Native.Nat.{ℕ, zero, suc, _/_}
 use lib.ListN.{length, getD}
 use lib.Dec.{ltb}
-use Rattle.lists.specs.Lists.{flat}
+use Rattle.lists.specs.Lists.{keep, flat}
 use Rattle.lists.specs.Keys.{under}
 use Rattle.matching.specs.declared.MatchResult.{MatchResult}
 use Rattle.matching.specs.Results.{better}
 use Rattle.model.specs.Fingerprints.{Hash, hashesOf}
-use Rattle.model.specs.Rows.{Row}
-use Rattle.model.specs.Index.{Posting, Index, keyOf, ofId, isStopped}
+use Rattle.model.specs.Rows.{Row, inSet}
+use Rattle.model.specs.Index.{Posting, Index, keyOf, ofId, isStopped, isLive}
 
 -- What Wang and Panako each have of their own.
 -- width          words of a posting: 3 (Wang), 5 (Panako)
@@ -29,9 +29,11 @@ pub record Scheme : Type 1 where
   pub vote : Ask → ℕ → Hash → Hash → List Vote
   pub judge : Ask → List Hash → Row → List Vote → Option MatchResult
 
--- What a query is called with, the store aside: settings and rate, the words of its hashes, and how many words of scratch are lent
+-- What a query is called with, the store aside: settings and rate, "a set, or 0 for all", the words of its hashes, and how many words
+-- of scratch are lent
 pub record Query (S : Scheme) : Type 0 where
   pub ask : S .Ask
+  pub set : ℕ
   pub words : List ℕ
   pub scratch : ℕ
 
@@ -46,6 +48,15 @@ pub record Catalog : Type 0 where
 
 abbrev pub catalog : Index → Catalog
 catalog x = record { size = length (x .rows); live = λ j. getD (x .rows) j none; vacant = x .vacant; held = x .postings; stopped = isStopped x }
+
+-- the row of a recording, if a query for `set` asks for it
+abbrev pub asked : ℕ → Option Row → Option Row
+asked set none = none
+asked set (some r) = cond (inSet set (r .set)) (some r) none
+
+-- "only recordings of the query's set vote": the hashes that they hold
+abbrev pub voting : ℕ → Catalog → List Posting
+voting set c = keep (λ p. isLive (asked set (c .live (p .id)))) (c .held)
 
 module _ (S : Scheme) where
   abbrev pub hashes : Query S → List Hash
@@ -63,18 +74,18 @@ module _ (S : Scheme) where
   abbrev pub votes : Query S → List Posting → List (S .Vote)
   votes q ps = gather (q .ask) 0 (hashes q) ps
 
-  -- refusal 8: "query gathers more votes than its scratch holds"
+  -- refusal 8: "query gathers more votes than its scratch holds"; "only votes of that set count against its scratch"
   unfoldable pub tooManyVotes : Query S → Catalog → Bool
-  tooManyVotes q c = ltb (room q) (length (votes q (c .held)))
+  tooManyVotes q c = ltb (room q) (length (votes q (voting (q .set) c)))
 
-  -- a live recording with a vote is judged. "What it holds, its rate, its r_max and the query decide its votes, gates and result."
+  -- a live recording of the set with a vote is judged. "What it holds, its rate, its r_max and the query decide its votes, gates and result."
   abbrev pub judged : Query S → Option Row → List (S .Vote) → Option MatchResult
   judged q none vs = none
   judged q (some r) [] = none
   judged q (some r) (v ∷ vs) = S .judge (q .ask) (hashes q) r (v ∷ vs)
 
   unfoldable pub candidate : Query S → Catalog → ℕ → Option MatchResult
-  candidate q c j = judged q (c .live j) (votes q (ofId j (c .held)))
+  candidate q c j = judged q (asked (q .set) (c .live j)) (votes q (ofId j (c .held)))
 
 -- "Best of those that pass ..: higher score, then higher prominence, then lower id": as the Rust's `track_best`, the one found first
 -- stays unless the next is better

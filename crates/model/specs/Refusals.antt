@@ -24,11 +24,11 @@ pub record AltersNothing (S : Scheme) : Type 0 where
   -- and so does a list of calls that are all refused
   pub calls : (m : Words) (xs : List (Call S)) → All Refused (answers S (run S) m xs) → leaves S (run S) m xs ≡ m
 
--- ── "The lowest number that applies is returned." ──
+-- ── "The lowest number that applies is returned", where a change request places its number after a lower one ──
 
--- the numbers in the order in which their tests are looked at
+-- the numbers in the order in which their tests are looked at, those of later change requests among them
 abbrev pub order : List ℕ
-order = 1 ∷ 2 ∷ 3 ∷ 4 ∷ 5 ∷ 6 ∷ 7 ∷ 8 ∷ []
+order = 1 ∷ 2 ∷ 3 ∷ 4 ∷ 9 ∷ 10 ∷ 5 ∷ 6 ∷ 7 ∷ 11 ∷ 8 ∷ 12 ∷ 13 ∷ []
 
 -- do numbers follow an order: are they what is left of it when some are taken out?
 abbrev pub follows : List ℕ → List ℕ → Bool
@@ -36,11 +36,12 @@ follows os [] = true
 follows [] (n ∷ ns) = false
 follows (o ∷ os) (n ∷ ns) = cond (eqb o n) (follows os ns) (follows os (n ∷ ns))
 
--- the numbers of build's table do; those of a table with 2 behind 3, with 2 twice, or with a number that isn't listed, don't
-pub examples : T (follows order (1 ∷ 3 ∷ 5 ∷ 6 ∷ 7 ∷ [])
+-- the numbers of build's table do; those of a table with 2 behind 3, with 9 behind 5, with 2 twice, or with a number that isn't listed, don't
+pub examples : T (follows order (1 ∷ 3 ∷ 9 ∷ 5 ∷ 6 ∷ 7 ∷ [])
     && not (follows order (1 ∷ 3 ∷ 2 ∷ []))
+    && not (follows order (1 ∷ 5 ∷ 9 ∷ []))
     && not (follows order (1 ∷ 2 ∷ 2 ∷ []))
-    && not (follows order (1 ∷ 9 ∷ [])))
+    && not (follows order (1 ∷ 14 ∷ [])))
 examples = tt
 
 -- the test of a number in a table: false if it has no row

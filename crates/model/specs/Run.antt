@@ -21,11 +21,11 @@ abbrev pub onWords : ℕ → Words → Outcome → Answer × Words
 onWords w m o = (o .0, laidOut w m (o .1))
 
 -- Each call: what the words say decides its answer and what it leaves. These are what the contracts of the entries equal.
-unfoldable pub runBuild : ℕ → Words → ℕ → List ℕ → List ℕ → List ℕ → Answer × Words
-runBuild w m limit words lengths rates = onWords w m (taken (storeOf w m) (buildStep w (sizesOf w m) (storeOf w m) limit words lengths rates))
+unfoldable pub runBuild : ℕ → Words → ℕ → List ℕ → List ℕ → List ℕ → List ℕ → Answer × Words
+runBuild w m limit words lengths rates sets = onWords w m (taken (storeOf w m) (buildStep w (sizesOf w m) (storeOf w m) limit words lengths rates sets))
 
-unfoldable pub runInsert : ℕ → Words → ℕ → ℕ → List ℕ → Answer × Words
-runInsert w m limit rate words = onWords w m (taken (storeOf w m) (insertStep w (sizesOf w m) (storeOf w m) limit rate words))
+unfoldable pub runInsert : ℕ → Words → ℕ → ℕ → ℕ → List ℕ → Answer × Words
+runInsert w m limit rate set words = onWords w m (taken (storeOf w m) (insertStep w (sizesOf w m) (storeOf w m) limit rate set words))
 
 unfoldable pub runRemove : ℕ → Words → ℕ → Answer × Words
 runRemove w m id = onWords w m (taken (storeOf w m) (removeStep (storeOf w m) id))
@@ -37,8 +37,8 @@ unfoldable pub runQuery : (S : Scheme) → Words → Query S → Answer × Words
 runQuery S m q = onWords (S .width) m (taken (storeOf (S .width) m) (queryStep S (storeOf (S .width) m) q))
 
 abbrev pub run : (S : Scheme) → Words → Call S → Answer × Words
-run S m (build limit words lengths rates) = runBuild (S .width) m limit words lengths rates
-run S m (insert limit rate words) = runInsert (S .width) m limit rate words
+run S m (build limit words lengths rates sets) = runBuild (S .width) m limit words lengths rates sets
+run S m (insert limit rate set words) = runInsert (S .width) m limit rate set words
 run S m (remove id) = runRemove (S .width) m id
 run S m liveCount = runCount (S .width) m
 run S m (query q) = runQuery S m q

@@ -29,7 +29,7 @@ pub record Sound (w : ℕ) (z : Sizes) (x : Index) : Type 0 where
   pub rows-fit : length (x .rows) ≤ z .R
   pub postings-fit : length (x .postings) ≤ z .P
   pub stopped-fit : length (x .stopped) ≤ z .K
-  -- "a live NaN rate is stored as that word"; "Panako r_max is 0"
+  -- "a live NaN rate is stored as that word"; "Panako r_max is 0"; "its live rows 1 to 255"
   pub rows-good : All (λ o. goodRow w o ≡ true) (x .rows)
   -- "the first n rows hold v dead ids and the first v vacant entries name each once"
   pub as-many : length (keep isDead (x .rows)) ≡ length (x .vacant)

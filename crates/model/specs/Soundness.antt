@@ -1,18 +1,19 @@
--- When the words of a store are sound: document 01's paragraph, a test for each of its conditions, over the words by their places.
+-- When the words of a store are sound: document 01's paragraph and document 02's condition on sets, a test for each of the conditions, over
+-- the words by their places.
 -- rs, ps and ss are the references, postings and stopped keys; n, v, p and k the first four words of the references: how many rows,
 -- vacant entries, postings and stopped keys are in use; w the width of a posting.
 -- proofs/Stores.antt shows that the test accepts exactly the words of sound indexes (`sound-exactly`).
 -- Definitions only. Assumes nothing.
-use mathlib.Core.Bool.{Bool, not, _&&_, _||_}
+use mathlib.Core.Bool.{Bool, cond, not, _&&_, _||_}
 use mathlib.Core.List.{List, [], _∷_}
 use Prim.Native.Nat.{ℕ, _+_, _*_, _-_}
 use lib.ListN.{getD}
 use lib.Dec.{eqb, leb, ltb}
 use Rattle.lists.specs.Every.{every, count, allTrue}
 use Rattle.lists.specs.Entries.{keyAt, keysAscend, zeroFrom}
-use Rattle.model.specs.Rows.{hasRmax, noRate, isCanonical}
+use Rattle.model.specs.Rows.{hasRmax, noRate, isCanonical, isSet}
 use Rattle.model.specs.Calls.{Sizes}
-use Rattle.model.specs.Words.{Words, headWidth, rowWidth, sizesOf, rowPlace, atRate, atRmax, atLive, atVacant}
+use Rattle.model.specs.Words.{Words, headWidth, rowWidth, sizesOf, rowPlace, atRate, atRmax, atLive, atVacant, atSet}
 
 -- word f of row j
 abbrev pub rowWord : List ℕ → ℕ → ℕ → ℕ
@@ -79,7 +80,11 @@ keyUnstopped w ss k ps i = every k (otherKey ss (keyAt ps w i))
 unfoldable pub entryUnused : List ℕ → ℕ → ℕ → Bool
 entryUnused rs v i = eqb (rowWord rs (v + i) atVacant) 0
 
--- the conditions, in the paper's order
+-- document 02: "a sound store's dead rows have set 0 and its live rows 1 to 255"
+unfoldable pub setFine : List ℕ → ℕ → Bool
+setFine rs j = cond (deadRow rs j) (eqb (rowWord rs j atSet) 0) (isSet (rowWord rs j atSet))
+
+-- the conditions, in the papers' order
 unfoldable pub soundTests : ℕ → Sizes → List ℕ → List ℕ → List ℕ → ℕ → ℕ → ℕ → ℕ → List Bool
 soundTests w z rs ps ss n v p k =
     countsFit z n v p k
@@ -100,6 +105,7 @@ soundTests w z rs ps ss n v p k =
     ∷ every (n - v) (entryUnused rs v)
     ∷ zeroFrom ps (w * p)
     ∷ zeroFrom ss k
+    ∷ every n (setFine rs)
     ∷ []
 
 -- is the store sound?

@@ -18,14 +18,14 @@ pub record Words : Type 0 where
   pub postings : List ℕ
   pub stopped : List ℕ
 
--- "4 words (rows n, vacant v, postings p, stopped k), then R rows of 4 words"
+-- "4 words (rows n, vacant v, postings p, stopped k)", then R rows, of which "A reference row gains a fifth word"
 abbrev pub headWidth : ℕ
 headWidth = 4
 
 abbrev pub rowWidth : ℕ
-rowWidth = 4
+rowWidth = 5
 
--- the words of a row: "rate bits, r_max, live (1 or 0), vacant entry"
+-- the words of a row: "rate bits, r_max, live (1 or 0), vacant entry", "its set"
 abbrev pub atRate : ℕ
 atRate = 0
 
@@ -38,13 +38,16 @@ atLive = 2
 abbrev pub atVacant : ℕ
 atVacant = 3
 
+abbrev pub atSet : ℕ
+atSet = 4
+
 -- where word f of row j stands
 abbrev pub rowPlace : ℕ → ℕ → ℕ
 rowPlace j f = rowWidth * j + (headWidth + f)
 
 -- ── sizes ──
 
--- "R .. (slice 4 + 4 × R words); P .. (3 × P or 5 × P words); K .. words": the room in slices of a, b and c words
+-- "the reference slice is 4 + 5 × R words"; "P .. (3 × P or 5 × P words); K .. words": the room in slices of a, b and c words
 abbrev pub roomIn : ℕ → ℕ → ℕ → ℕ → Sizes
 roomIn w a b c = record { R = (a - headWidth) / rowWidth; P = b / w; K = c }
 
@@ -70,10 +73,11 @@ slicesListed w m = lengthsListed w (length (m .references)) (length (m .postings
 
 -- ── writing ──
 
--- "rate bits, r_max, live (1 or 0), vacant entry"; "a dead row has rate 7FC00000 (hexadecimal) and r_max 0"
+-- "rate bits, r_max, live (1 or 0), vacant entry", "its set"; "a dead row has rate 7FC00000 (hexadecimal) and r_max 0"; "a sound store's
+-- dead rows have set 0"
 abbrev pub rowWords : Option Row → ℕ → List ℕ
-rowWords none e = noRate ∷ 0 ∷ 0 ∷ e ∷ []
-rowWords (some r) e = r .rate ∷ r .rmax ∷ 1 ∷ e ∷ []
+rowWords none e = noRate ∷ 0 ∷ 0 ∷ e ∷ 0 ∷ []
+rowWords (some r) e = r .rate ∷ r .rmax ∷ 1 ∷ e ∷ r .set ∷ []
 
 -- vacant entry i stands in row i; a row behind the vacant entries has none
 unfoldable pub rowEntries : List (Option Row) → List ℕ → List (List ℕ)
@@ -86,12 +90,12 @@ abbrev pub postingWords : Posting → List ℕ
 postingWords p = p .hash .key ∷ p .id ∷ p .hash .times
 
 -- n, v, p and k, then the rows; "every unused word is zero". So with R = 2, P = 3 and K = 1 a Wang index of one recording, at rate
--- 427A0000 with r_max 6 and two postings, is laid out as
---     references  1 0 2 0   427A0000 6 1 0   0 0 0 0
+-- 427A0000 with r_max 6, in set 2, with two postings, is laid out as
+--     references  1 0 2 0   427A0000 6 1 0 2   0 0 0 0 0
 --     postings    7 0 4   9 0 6   0 0 0
 --     stopped     0
 -- and after the removal of that recording as
---     references  1 1 0 0   7FC00000 0 0 0   0 0 0 0
+--     references  1 1 0 0   7FC00000 0 0 0 0   0 0 0 0 0
 --     postings    0 0 0   0 0 0   0 0 0
 unfoldable pub write : ℕ → Sizes → Index → Words
 write w z x = record {
@@ -104,7 +108,7 @@ write w z x = record {
 -- ── reading ──
 
 abbrev pub readRow : List ℕ → Option Row
-readRow e = cond (eqb (getD e atLive 0) 1) (some (record { rate = getD e atRate 0; rmax = getD e atRmax 0 })) none
+readRow e = cond (eqb (getD e atLive 0) 1) (some (record { rate = getD e atRate 0; rmax = getD e atRmax 0; set = getD e atSet 0 })) none
 
 abbrev pub readVacant : List ℕ → ℕ
 readVacant e = getD e atVacant 0

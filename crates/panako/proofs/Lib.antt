@@ -1,3 +1,4 @@
--- The claim about histories for PanakoIndex, and what holds of refused calls.
+-- The claim about histories for PanakoIndex, what holds of refused calls, and of other sets.
 pub mod Demand3
 pub mod Refusals
+pub mod Sets

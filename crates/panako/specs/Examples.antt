@@ -1,6 +1,7 @@
 -- The worked examples of demand 3 (crate `model`, specs/Changes.antt) for this index. Each is computed from the definitions, soundness and layout
 -- of the words included. Assumes nothing.
 use mathlib.Core.List.{[], _∷_}
+use Prim.Native.Nat.{ℕ}
 use lib.Dec.{T}
 use lib.Ieee.{binary32, ofBits, nanBits, add, sub, mul, div, le, lt, ofInt, toUnsigned, isNan, round}
 use Rattle.lists.specs.Lists.{keep, some?, flat, sum, insertKey}
@@ -19,12 +20,12 @@ use Rattle.matching.specs.Results.{better}
 use Rattle.consolidate.specs.Runs.{firstGreatest}
 use Rattle.consolidate.specs.Modes.{mode}
 use Rattle.model.specs.Fingerprints.{hashesOf, divided, malformed, malformedBuild}
-use Rattle.model.specs.Rows.{canonical, isCanonical, rowOf, largestAnchor}
+use Rattle.model.specs.Rows.{canonical, isCanonical, isSet, inSet, rowOf, largestAnchor}
 use Rattle.model.specs.Index.{numbered, exceeds, stopKeys, inserted, builtFrom, erased}
 use Rattle.model.specs.Query.{Query, gather, tooManyVotes, candidate, bestBelow}
-use Rattle.model.specs.Calls.{nothing, query, buildTests, insertTests, plainTests, queryTests, scratchListed, buildStep, insertStep, removeStep, queryStep}
+use Rattle.model.specs.Calls.{nothing, query, buildTests, insertTests, plainTests, earlyTests, queryTests, scratchListed, buildStep, insertStep, removeStep, queryStep}
 use Rattle.model.specs.Words.{sizesOf, sizesListed, slicesListed, rowEntries, write, readIndex}
-use Rattle.model.specs.Soundness.{countsFit, liveWord, stoppedStep, deadRow, otherEntry, vacantEntry, deadFine, rateFine, liveId, postingLive, anchorFine, rmaxFine, otherKey, keyUnstopped, entryUnused, soundTests, soundWords}
+use Rattle.model.specs.Soundness.{countsFit, liveWord, stoppedStep, deadRow, otherEntry, vacantEntry, deadFine, rateFine, liveId, postingLive, anchorFine, rmaxFine, otherKey, keyUnstopped, entryUnused, setFine, soundTests, soundWords}
 use Rattle.model.specs.Run.{storeOf, runBuild, runInsert, runRemove, runQuery}
 use Rattle.model.specs.History.{leaves}
 use Rattle.model.specs.Changes.{rate, Material, allRight}
@@ -37,8 +38,8 @@ use Rattle.panako_judge.specs.Judge.{withBin, occupiedBins, houghBins, seenOf, 
 use Rattle.panako_judge.specs.Scheme.{beyond, votesOf, judge, panako}
 
 -- scales 0.80 to 1.25 in 24 bins, tolerance 1, min_votes 1, min_score 0.25, min_prominence 0.5, and scratch for 6 votes
-abbrev probe : Query panako
-probe = record {
+abbrev probe : ℕ → Query panako
+probe set = record {
   ask = record {
     cfg = record {
       «scale_min» = ofBits binary32 0x3F4C_CCCD;
@@ -51,6 +52,7 @@ probe = record {
     };
     rate = ofBits binary32 rate;
   };
+  set = set;
   words = 7 ∷ 10 ∷ 15 ∷ 20 ∷ 9 ∷ 30 ∷ 35 ∷ 40 ∷ [];
   scratch = 72;
 }
@@ -60,5 +62,5 @@ abbrev material : Material panako
 material = record { both = 7 ∷ 110 ∷ 115 ∷ 120 ∷ 9 ∷ 130 ∷ 135 ∷ 140 ∷ []; one = 7 ∷ 110 ∷ 115 ∷ 120 ∷ []; other = 5 ∷ 110 ∷ 115 ∷ 120 ∷ []; probe = probe }
 
 pub examples : T (allRight panako material)
-unfolding leaves runBuild runInsert runRemove runQuery storeOf slicesListed sizesListed sizesOf soundWords soundTests countsFit liveWord stoppedStep deadRow otherEntry vacantEntry deadFine rateFine liveId postingLive anchorFine rmaxFine otherKey keyUnstopped entryUnused readIndex write rowEntries every count allTrue entries keysAscend zeroWord zeroFrom padded keep some? flat sum insertKey place placeAll buildStep insertStep removeStep queryStep buildTests insertTests plainTests queryTests scratchListed numbered inserted builtFrom erased exceeds stopKeys hashesOf divided malformed malformedBuild rowOf canonical isCanonical largestAnchor gather tooManyVotes candidate bestBelow better seenOf peakGates gates resultAt judgeBy beyond judge counting.countIf sumTo sumToℤ greatest first firstGreatest mode millis ratesAgree clampScore scoreOf roundToI64 abs maximum nanBits ofBits add sub mul div le lt ofInt isNan round votesOf withBin occupiedBins houghBins timeScaleOf houghSum houghPeak merged peakOffset farSum farCount prominence normalised withinLimits gridOf binAt voteAtScale voteOn perBin binCentre timeScale narrow toUnsigned
+unfolding leaves runBuild runInsert runRemove runQuery storeOf slicesListed sizesListed sizesOf soundWords soundTests countsFit liveWord stoppedStep deadRow otherEntry vacantEntry deadFine rateFine liveId postingLive anchorFine rmaxFine otherKey keyUnstopped entryUnused setFine readIndex write rowEntries every count allTrue entries keysAscend zeroWord zeroFrom padded keep some? flat sum insertKey place placeAll buildStep insertStep removeStep queryStep buildTests insertTests plainTests earlyTests queryTests scratchListed numbered inserted builtFrom erased exceeds stopKeys hashesOf divided malformed malformedBuild rowOf canonical isCanonical isSet inSet largestAnchor gather tooManyVotes candidate bestBelow better seenOf peakGates gates resultAt judgeBy beyond judge counting.countIf sumTo sumToℤ greatest first firstGreatest mode millis ratesAgree clampScore scoreOf roundToI64 abs maximum nanBits ofBits add sub mul div le lt ofInt isNan round votesOf withBin occupiedBins houghBins timeScaleOf houghSum houghPeak merged peakOffset farSum farCount prominence normalised withinLimits gridOf binAt voteAtScale voteOn perBin binCentre timeScale narrow toUnsigned
 examples = tt

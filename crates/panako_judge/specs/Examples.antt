@@ -101,7 +101,7 @@ data Example : Type 0 where
   judged : Ask → List Hash → ℕ → List Hash → Line → Example
 
 abbrev Right : Example → Type 0
-Right (judged a hs rate gs l) = line (judge a hs (record { rate = rate; rmax = 0 }) (votes a hs gs)) ≡ l
+Right (judged a hs rate gs l) = line (judge a hs (record { rate = rate; rmax = 0; set = 1 }) (votes a hs gs)) ≡ l
 
 abbrev All : List Example → Type 0
 All [] = Unit {0}

@@ -56,6 +56,6 @@ panako = record {
   judge = judge;
 }
 
--- settings as they come, rate, the words of the hashes, and how many words of scratch are lent
-abbrev pub queryWith : PanakoMatchConfig → Float → List ℕ → ℕ → Query panako
-queryWith cfg rate hs scratch = record { ask = record { cfg = cfg; rate = rate }; words = hs; scratch = scratch }
+-- settings as they come, rate, the set, the words of the hashes, and how many words of scratch are lent
+abbrev pub queryWith : PanakoMatchConfig → Float → ℕ → List ℕ → ℕ → Query panako
+queryWith cfg rate set hs scratch = record { ask = record { cfg = cfg; rate = rate }; set = set; words = hs; scratch = scratch }

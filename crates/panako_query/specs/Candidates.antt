@@ -12,6 +12,8 @@ use Rattle.model.specs.Calls.{Answer}
 use Rattle.model.specs.Words.{headWidth, rowWidth}
 use Rattle.panako_vote.specs.Grids.{gridOf}
 use Rattle.main_votes.specs.Main.{mainOf}
+use Rattle.query_search.specs.Voting.{voting}
+use Rattle.query_search.specs.declared.Voters.{Voters}
 use Rattle.query_laws.specs.Candidates as of-reading
 use Rattle.panako_judge.specs.declared.PanakoQuery.{PanakoQuery}
 use Rattle.panako_vote.specs.Words.{Vote, lowest}
@@ -27,19 +29,22 @@ reading q = record { recordingOf = recordingOf; voteIn = voteIn; judge = λ r vs
 abbrev pub bestIn : PanakoQuery → List ℕ → List ℤ → Option (ℕ × MatchResult)
 bestIn q rs zs = of-reading.bestIn (reading q) rs zs
 
--- the postings in use; the query's hashes; the words of its votes in the order in which they are gathered
-abbrev pub postingsIn : List ℕ → List ℕ → List (List ℕ)
-postingsIn rs ps = entries 5 (getD rs 2 0) ps
+-- the postings in use, and those that vote; the query's hashes; the words of its votes in the order in which they are gathered
+abbrev pub heldIn : List ℕ → List ℕ → List (List ℕ)
+heldIn rs ps = entries 5 (getD rs 2 0) ps
+
+abbrev pub postingsIn : Voters → List ℕ → List ℕ → List (List ℕ)
+postingsIn v rs ps = voting v rs (heldIn rs ps)
 
 abbrev pub hashesIn : PanakoQuery → List ℕ → List (List ℕ)
 hashesIn q hs = entries 4 (q .«q_len») hs
 
-abbrev pub wordsIn : PanakoQuery → List ℕ → List ℕ → List ℕ → List ℤ
-wordsIn q rs ps hs = words (gridOf (q .cfg)) (postingsIn rs ps) (hashesIn q hs)
+abbrev pub wordsIn : Voters → PanakoQuery → List ℕ → List ℕ → List ℕ → List ℤ
+wordsIn v q rs ps hs = words (gridOf (q .cfg)) (postingsIn v rs ps) (hashesIn q hs)
 
 -- the answer, where the scratch has room for so many votes
-abbrev pub answerIn : PanakoQuery → ℕ → List ℕ → List ℕ → List ℕ → Answer
-answerIn q room rs ps hs = of-reading.answerIn (reading q) room rs (wordsIn q rs ps hs)
+abbrev pub answerIn : Voters → PanakoQuery → ℕ → List ℕ → List ℕ → List ℕ → Answer
+answerIn v q room rs ps hs = of-reading.answerIn (reading q) room rs (wordsIn v q rs ps hs)
 
 -- the words that decide the best: "Too few votes against min_votes: no candidate", so fewer than that beside those of the first one's recording are left out
 abbrev pub mainIn : PanakoQuery → List ℤ → List ℤ
@@ -75,5 +80,5 @@ pub record Alike (s : List ℤ) (v n : ℕ) : Type 0 where
 -- postings and query hashes whose votes can be gathered; a posting is of a recording in the references
 pub record Posted (rs ps hs : List ℕ) (q : PanakoQuery) : Type 0 where
   pub limits : Limits rs q
-  pub packable : Packable ps (getD rs 2 0) hs (q .«q_len») (gridOf (q .cfg))
-  pub held : All (λ e. getD e 1 0 < getD rs 0 0) (postingsIn rs ps)
+  pub packable : Packable rs ps (getD rs 2 0) hs (q .«q_len») (gridOf (q .cfg))
+  pub held : All (λ e. getD e 1 0 < getD rs 0 0) (heldIn rs ps)

@@ -20,6 +20,7 @@ use panako_vote::PanakoMatchConfig;
 use panako_vote::ScaleGrid;
 use query_rank::Best;
 use query_rank::Finding;
+use query_search::Voters;
 
 // The best candidate by the first v words, which are votes in ascending order. Bins and sums are written from word 2 * v on.
 fn best_of(s: &mut [i64], v: usize, refs: &[u32], q: PanakoQuery) -> Best
@@ -85,7 +86,7 @@ fn best_of_few(s: &mut [i64], v: usize, n: usize, refs: &[u32], q: PanakoQuery) 
     )
 }
 
-// The best candidate by the votes of the query's hashes, which are gathered and sorted in the scratch. `starts` and `ends` say where the
+// The best candidate by the votes of the query's hashes with the voters' postings, which are gathered and sorted in the scratch. `starts` and `ends` say where the
 // postings of each hash begin and end, `g` is the scale grid; `which` is written over.
 fn best_candidate(
     s: &mut [i64],
@@ -96,16 +97,29 @@ fn best_candidate(
     starts: &[u32],
     ends: &[u32],
     which: &mut [u32],
+    voters: Voters,
     q: PanakoQuery,
     g: ScaleGrid,
 ) -> Best
     requires { ⌜ Posted (now refs) (now posts) (now hashes) q × (p ≡ getD (now refs) 2 0) × (g ≡ gridOf (q .cfg))
-        × (length (wordsIn q (now refs) (now posts) (now hashes)) ≤ 1000000) × (6 * length (wordsIn q (now refs) (now posts) (now hashes)) ≤ length (now s))
+        × (length (wordsIn voters q (now refs) (now posts) (now hashes)) ≤ 1000000) × (6 * length (wordsIn voters q (now refs) (now posts) (now hashes)) ≤ length (now s))
         × Starts (now posts) 5 p (now hashes) 4 (q .«q_len») (now starts) × Ends (now posts) 5 p (now hashes) 4 (q .«q_len») (now ends)
         × (q .«q_len» ≤ length (now starts)) × (q .«q_len» ≤ length (now ends)) × (q .«q_len» ≤ length (now which)) ⌝ }
-    ensures { λ r. ⌜ bestSoFar r ≡ bestIn q (now (refs .entry)) (wordsIn q (now (refs .entry)) (now (posts .entry)) (now (hashes .entry))) ⌝ }
+    ensures { λ r. ⌜ bestSoFar r ≡ bestIn q (now (refs .entry)) (wordsIn voters q (now (refs .entry)) (now (posts .entry)) (now (hashes .entry))) ⌝ }
 {
-    let v = panako_votes::gather(s, posts, p, hashes, q.q_len, starts, ends, which, g);
+    let v = panako_votes::gather(
+        s,
+        refs,
+        voters,
+        posts,
+        p,
+        hashes,
+        q.q_len,
+        starts,
+        ends,
+        which,
+        g,
+    );
     let m = main_votes(s, v, q);
     let n = few_bins(s, m);
     if 0 < n {
@@ -121,23 +135,35 @@ fn search_in(
     refs: &[u32],
     posts: &[u32],
     hashes: &[u32],
+    voters: Voters,
     q: PanakoQuery,
     starts: &mut [u32],
     ends: &mut [u32],
     which: &mut [u32],
 ) -> Finding
     requires { ⌜ Posted (now refs) (now posts) (now hashes) q × (length (now s) / 12 ≤ 1000000) × Zeros (q .«q_len») (now starts) × (q .«q_len» ≤ length (now ends)) × (q .«q_len» ≤ length (now which)) ⌝ }
-    ensures { λ r. ⌜ findingAnswer r ≡ answerIn q (length (now (s .entry)) / 12) (now (refs .entry)) (now (posts .entry)) (now (hashes .entry)) ⌝ }
-    ensures { λ _. ⌜ now (s .exit) ≡ scratchAfter (answerIn q (length (now (s .entry)) / 12) (now (refs .entry)) (now (posts .entry)) (now (hashes .entry))) (now (s .entry)) ⌝ }
+    ensures { λ r. ⌜ findingAnswer r ≡ answerIn voters q (length (now (s .entry)) / 12) (now (refs .entry)) (now (posts .entry)) (now (hashes .entry)) ⌝ }
+    ensures { λ _. ⌜ now (s .exit) ≡ scratchAfter (answerIn voters q (length (now (s .entry)) / 12) (now (refs .entry)) (now (posts .entry)) (now (hashes .entry))) (now (s .entry)) ⌝ }
 {
     let room = s.len() / 12;
     let p = rows::header(refs).postings;
     let g = panako_vote::scale_grid(q.cfg);
     query_search::seek(starts, posts, 5, p, hashes, 4, q.q_len);
-    if !panako_votes::fits(ends, posts, p, hashes, q.q_len, starts, g, room) {
+    if !panako_votes::fits(
+        ends,
+        refs,
+        voters,
+        posts,
+        p,
+        hashes,
+        q.q_len,
+        starts,
+        g,
+        room,
+    ) {
         return Finding::Refused(8);
     }
-    let best = best_candidate(s, refs, posts, p, hashes, starts, ends, which, q, g);
+    let best = best_candidate(s, refs, posts, p, hashes, starts, ends, which, voters, q, g);
     maps::zero_words(s);
     query_rank::answer_of(best)
 }
@@ -148,28 +174,35 @@ const FEW: usize = 64;
 
 const SOME: usize = 512;
 
-// The same with arrays for where the postings of each hash begin and end, and for which hashes have some.
-fn search(s: &mut [i64], refs: &[u32], posts: &[u32], hashes: &[u32], q: PanakoQuery) -> Finding
+// The same with arrays for where the postings of each hash begin (a) and end (e), and for which hashes have some (met).
+fn search(
+    s: &mut [i64],
+    refs: &[u32],
+    posts: &[u32],
+    hashes: &[u32],
+    voters: Voters,
+    q: PanakoQuery,
+) -> Finding
     requires { ⌜ Posted (now refs) (now posts) (now hashes) q × (length (now s) / 12 ≤ 1000000) ⌝ }
-    ensures { λ r. ⌜ findingAnswer r ≡ answerIn q (length (now (s .entry)) / 12) (now (refs .entry)) (now (posts .entry)) (now (hashes .entry)) ⌝ }
-    ensures { λ _. ⌜ now (s .exit) ≡ scratchAfter (answerIn q (length (now (s .entry)) / 12) (now (refs .entry)) (now (posts .entry)) (now (hashes .entry))) (now (s .entry)) ⌝ }
+    ensures { λ r. ⌜ findingAnswer r ≡ answerIn voters q (length (now (s .entry)) / 12) (now (refs .entry)) (now (posts .entry)) (now (hashes .entry)) ⌝ }
+    ensures { λ _. ⌜ now (s .exit) ≡ scratchAfter (answerIn voters q (length (now (s .entry)) / 12) (now (refs .entry)) (now (posts .entry)) (now (hashes .entry))) (now (s .entry)) ⌝ }
 {
     if q.q_len <= FEW {
-        let mut starts = [0u32; 64];
-        let mut ends = [0u32; 64];
+        let mut a = [0u32; 64];
+        let mut e = [0u32; 64];
         let mut met = [0u32; 64];
-        return search_in(s, refs, posts, hashes, q, &mut starts, &mut ends, &mut met);
+        return search_in(s, refs, posts, hashes, voters, q, &mut a, &mut e, &mut met);
     }
     if q.q_len <= SOME {
-        let mut starts = [0u32; 512];
-        let mut ends = [0u32; 512];
+        let mut a = [0u32; 512];
+        let mut e = [0u32; 512];
         let mut met = [0u32; 512];
-        return search_in(s, refs, posts, hashes, q, &mut starts, &mut ends, &mut met);
+        return search_in(s, refs, posts, hashes, voters, q, &mut a, &mut e, &mut met);
     }
-    let mut starts = [0u32; 2048];
-    let mut ends = [0u32; 2048];
+    let mut a = [0u32; 2048];
+    let mut e = [0u32; 2048];
     let mut met = [0u32; 2048];
-    search_in(s, refs, posts, hashes, q, &mut starts, &mut ends, &mut met)
+    search_in(s, refs, posts, hashes, voters, q, &mut a, &mut e, &mut met)
 }
 
 // What every candidate is judged with: the settings after `normalize_config`.
@@ -183,7 +216,7 @@ fn query_of(hashes: &[u32], frames_per_sec: f32, cfg: PanakoMatchConfig) -> Pana
     }
 }
 
-// The best recording for a query, with its result. The store is left as it is, and of the scratch an accepted query leaves zeros.
+// The best recording of a set, 0 for all, for a query, with its result. The store is left as it is, and of the scratch an accepted query leaves zeros.
 pub fn query(
     refs: &[u32],
     posts: &[u32],
@@ -192,17 +225,18 @@ pub fn query(
     hashes: &[u32],
     frames_per_sec: f32,
     cfg: PanakoMatchConfig,
+    set: u32,
 ) -> Finding
     ensures { λ r. ⌜ (findingAnswer r, lent (refs .entry) (posts .entry) (stops .entry))
         ≡ runQuery panako (lent (refs .entry) (posts .entry) (stops .entry))
-        (queryWith cfg «frames_per_sec» (now (hashes .entry)) (length (now (s .entry)))) ⌝ }
+        (queryWith cfg «frames_per_sec» set (now (hashes .entry)) (length (now (s .entry)))) ⌝ }
     ensures { λ r. ⌜ now (s .exit) ≡ scratchAfter (findingAnswer r) (now (s .entry)) ⌝ }
 {
     let q = query_of(hashes, frames_per_sec, cfg);
     let beyond = !panako_vote::within_limits(q.cfg);
-    let r = query_refusals::of_query(refs, posts, stops, 5, s.len(), 12, hashes, beyond);
+    let r = query_refusals::of_query(refs, posts, stops, 5, s.len(), 12, hashes, beyond, set);
     if r != 0 {
         return Finding::Refused(r);
     }
-    search(s, refs, posts, hashes, q)
+    search(s, refs, posts, hashes, Voters { set }, q)
 }

@@ -2,7 +2,7 @@
 use mathlib.Core.Path.{_≡_, refl, sym, ap, _∙_}
 use mathlib.Core.Bool.{Bool}
 use mathlib.Core.Logic.{_⊎_, inl, inr}
-use mathlib.Core.List.{List, [], _∷_, _++_, append-nil}
+use mathlib.Core.List.{List, [], _++_, append-nil}
 use Prim.Native.Nat.{ℕ, zero, suc, _+_, _*_, _-_, _≤_, _<_}
 use native.Mathlib.Nat.{eq-or-lt-of-le}
 use native.Mathlib.Omega.{arith}
@@ -19,8 +19,12 @@ use Rattle.maps.specs.Sums.{when}
 use Rattle.maps.proofs.Sums.{sum-next, sum-mono, sum-under, sum-zero, keep-le}
 use Rattle.query_search.specs.Starts.{Starts, Ends, Sought}
 use Rattle.query_search.proofs.Meeting.{under-many}
+use Rattle.query_search.proofs.Walks.{none-of}
 use Rattle.panako_vote.specs.declared.ScaleGrid.{ScaleGrid}
+use Rattle.query_search.specs.declared.Voters.{Voters}
 use Rattle.query_search.specs.Gathered.{wordsBy}
+use Rattle.query_search.specs.Voting.{voting}
+use Rattle.query_search.proofs.Voting.{under-voting, voting-none}
 use Rattle.panako_votes.specs.Listed.{metTo, Listed}
 use Rattle.panako_votes.proofs.Walks.{before, at, before-none, before-more, put-hash, longer, before-longer}
 
@@ -83,35 +87,32 @@ module _ (starts ends : List ℕ) where
 
 -- ---- the walk over those listed
 
-none-of : {A : Type 0} (l : List A) → length l ≡ 0 → l ≡ []
-none-of [] e = refl
-none-of (x ∷ l) e = absurd (omega arith)
-
-module _ (g : ScaleGrid) (ps : List ℕ) (p : ℕ) (hs : List ℕ) (m : ℕ) (starts ends : List ℕ) where
+module _ (g : ScaleGrid) (vs : Voters) (rs ps : List ℕ) (p : ℕ) (hs : List ℕ) (m : ℕ) (starts ends : List ℕ) where
   -- the words l are the v votes of the hashes before some place, of which j meet a posting
   pub record Walked (l : List ℤ) (v j : ℕ) : Type 0 where
     pub place : ℕ
     pub within : place ≤ m
     pub rank : metTo starts ends place ≡ j
-    pub put : l ≡ before g ps p hs place
-    pub many : v ≡ length (before g ps p hs place)
+    pub put : l ≡ before g vs rs ps p hs place
+    pub many : v ≡ length (before g vs rs ps p hs place)
 
   pub walked-none : (l : List ℤ) → l ≡ [] → Walked l 0 0
-  walked-none l e = record { place = 0; within = omega arith; rank = met-zero starts ends; put = e ∙ sym (before-none g ps p hs); many = sym (ap length (before-none g ps p hs)) }
+  walked-none l e = record { place = 0; within = omega arith; rank = met-zero starts ends; put = e ∙ sym (before-none g vs rs ps p hs); many = sym (ap length (before-none g vs rs ps p hs)) }
 
   module _ (W : Sought ps 5 p hs 4 m) (S : Starts ps 5 p hs 4 m starts) (E : Ends ps 5 p hs 4 m ends) where
     -- a hash that meets none has no votes
-    under-none : (i : ℕ) → i < m → getD ends i 0 ≤ getD starts i 0 → under keyOf (getD hs (4 * i) 0) (entries 5 p ps) ≡ []
+    under-none : (i : ℕ) → i < m → getD ends i 0 ≤ getD starts i 0 → under keyOf (getD hs (4 * i) 0) (voting vs rs (entries 5 p ps)) ≡ []
     under-none i h le =
         let a = S .begins i h in
         let b = E .stops i h in
-        none-of (under keyOf (getD hs (4 * i) 0) (entries 5 p ps)) (omega (arith, a, b, under-many ps 5 p (keyAt hs 4 i) (W .ascend) (omega arith) (W .postings)))
+        let e = none-of (under keyOf (getD hs (4 * i) 0) (entries 5 p ps)) (omega (arith, a, b, under-many ps 5 p (keyAt hs 4 i) (W .ascend) (omega arith) (W .postings))) in
+        under-voting vs rs (getD hs (4 * i) 0) (entries 5 p ps) ∙ ap (voting vs rs) e ∙ voting-none vs rs
 
-    before-skip : (i : ℕ) → i < m → getD ends i 0 ≤ getD starts i 0 → before g ps p hs (i + 1) ≡ before g ps p hs i
+    before-skip : (i : ℕ) → i < m → getD ends i 0 ≤ getD starts i 0 → before g vs rs ps p hs (i + 1) ≡ before g vs rs ps p hs i
     unfolding wordsBy flat
-    before-skip i h le = before-more g ps p hs i ∙ rw (under-none i h le) (append-nil (before g ps p hs i))
+    before-skip i h le = before-more g vs rs ps p hs i ∙ rw (under-none i h le) (append-nil (before g vs rs ps p hs i))
 
-    skip : (i d : ℕ) → i + d ≤ m → metTo starts ends i ≡ metTo starts ends (i + d) → before g ps p hs i ≡ before g ps p hs (i + d)
+    skip : (i d : ℕ) → i + d ≤ m → metTo starts ends i ≡ metTo starts ends (i + d) → before g vs rs ps p hs i ≡ before g vs rs ps p hs (i + d)
     skip i zero h e = let z : i + 0 ≡ i = omega arith in rw z refl
     skip i (suc d) h e =
         let z : i + suc d ≡ (i + d) + 1 = omega arith in
@@ -122,7 +123,7 @@ module _ (g : ScaleGrid) (ps : List ℕ) (p : ℕ) (hs : List ℕ) (m : ℕ) (st
         rw z (ih ∙ sym (before-skip (i + d) (omega arith) (not-met starts ends (i + d) (omega arith))))
 
     -- where no more are met, no more are voted for
-    before-same : (i e : ℕ) → i ≤ e → e ≤ m → metTo starts ends i ≡ metTo starts ends e → before g ps p hs i ≡ before g ps p hs e
+    before-same : (i e : ℕ) → i ≤ e → e ≤ m → metTo starts ends i ≡ metTo starts ends e → before g vs rs ps p hs i ≡ before g vs rs ps p hs e
     before-same i e l h k = let z : i + (e - i) ≡ e = omega arith in rw z at (skip i (e - i) (rw z h) (rw z k))
 
     module _ (which : List ℕ) (k : ℕ) (L : Listed starts ends which m k) (l : List ℤ) (v j : ℕ) (A : Walked l v j) where
@@ -134,20 +135,20 @@ module _ (g : ScaleGrid) (ps : List ℕ) (p : ℕ) (hs : List ℕ) (m : ℕ) (st
         behind = test (ltb next (A .place)) (λ t. absurd (omega (arith, A .rank, L .rank j lt, met-at starts ends next (L .meets j lt), met-mono starts ends (next + 1) (A .place) (omega (arith, ltb-true next (A .place) t))))) (ltb-false next (A .place))
 
         -- up to the next
-        reached : before g ps p hs (A .place) ≡ before g ps p hs (getD which j 0)
+        reached : before g vs rs ps p hs (A .place) ≡ before g vs rs ps p hs (getD which j 0)
         reached = before-same (A .place) next behind (omega (arith, L .place j lt)) (A .rank ∙ sym (L .rank j lt))
 
-        pub walked-room : v + length (at g ps p hs (getD which j 0)) ≤ length (before g ps p hs m)
-        walked-room = omega (arith, A .many, ap length reached, longer g ps p hs next, before-longer g ps p hs (next + 1) m (omega (arith, L .place j lt)))
+        pub walked-room : v + length (at g vs rs ps p hs (getD which j 0)) ≤ length (before g vs rs ps p hs m)
+        walked-room = omega (arith, A .many, ap length reached, longer g vs rs ps p hs next, before-longer g vs rs ps p hs (next + 1) m (omega (arith, L .place j lt)))
 
-        pub walked-more : (x : List ℤ) (v′ : ℕ) → v′ ≡ v + length (at g ps p hs (getD which j 0)) → x ≡ l ++ at g ps p hs (getD which j 0) → Walked x v′ (j + 1)
+        pub walked-more : (x : List ℤ) (v′ : ℕ) → v′ ≡ v + length (at g vs rs ps p hs (getD which j 0)) → x ≡ l ++ at g vs rs ps p hs (getD which j 0) → Walked x v′ (j + 1)
         walked-more x v′ ev ex = record {
           place = next + 1;
           within = omega (arith, L .place j lt);
           rank = met-at starts ends next (L .meets j lt) ∙ ap (λ (t : ℕ). t + 1) (L .rank j lt);
-          put = put-hash g ps p hs next l x (A .put ∙ reached) ex;
-          many = omega (arith, ev, A .many, ap length reached, longer g ps p hs next);
+          put = put-hash g vs rs ps p hs next l x (A .put ∙ reached) ex;
+          many = omega (arith, ev, A .many, ap length reached, longer g vs rs ps p hs next);
         }
 
-      pub walked-all : j ≡ k → before g ps p hs (A .place) ≡ before g ps p hs m
+      pub walked-all : j ≡ k → before g vs rs ps p hs (A .place) ≡ before g vs rs ps p hs m
       walked-all e = before-same (A .place) m (A .within) (omega arith) (A .rank ∙ e ∙ L .number)

@@ -10,6 +10,7 @@ use Rattle.panako_vote.specs.Grids.{Limited}
 use Rattle.panako_vote.specs.Votes.{voteOn}
 use Rattle.panako_vote.specs.declared.ScaleGrid.{ScaleGrid}
 use Rattle.query_search.specs.Gathered.{wordsBy, Pairing, wordsFrom, Ids}
+use Rattle.query_search.specs.Voting.{Rowed}
 use Rattle.panako_vote.specs.Words.{Vote, asList, wordOf}
 
 -- the votes, none or one, of a query hash with t_anchor qa and t_c qc and the posting e; their words
@@ -33,8 +34,9 @@ voteCount g es hs = length (words g es hs)
 abbrev pub wordsOn : ScaleGrid → ℕ → ℕ → List (List ℕ) → List ℤ
 wordsOn g qa qc es = wordsBy (wordsWith g qa qc) es
 
--- what the gathering asks: each part of a vote has its bits
-pub record Packable (ps : List ℕ) (p : ℕ) (hs : List ℕ) (m : ℕ) (g : ScaleGrid) : Type 0 where
+-- what the gathering asks: each part of a vote has its bits, and each recording a row in the references rs
+pub record Packable (rs ps : List ℕ) (p : ℕ) (hs : List ℕ) (m : ℕ) (g : ScaleGrid) : Type 0 where
   pub walk : Sought ps 5 p hs 4 m
   pub ids : Ids (entries 5 p ps)
+  pub rowed : Rowed rs ps 5 p
   pub grid : Limited g

@@ -18,6 +18,8 @@ use Rattle.model.specs.Index as index
 use Rattle.model.specs.Words.{readPosting}
 use Rattle.model.specs.Query.{Scheme, gather}
 use Rattle.query_search.specs.Gathered.{found, wordsBy, Pairing, wordsFrom}
+use Rattle.query_search.specs.Voting.{mayVote, voting}
+use Rattle.query_search.specs.declared.Voters.{Voters}
 use Rattle.query_laws.specs.Candidates.{Reading, ofRecording, votesOf}
 
 module _ (S : Scheme) (R : Reading (S .Vote)) (a : S .Ask) (pair : Pairing) where
@@ -132,6 +134,11 @@ module _ (pair : Pairing) (P : ℤ → Type 0) where
       all-append P (flat (map (pair i h) (found es h))) (wordsFrom pair (suc i) es hs)
       (all-flat (pair i h) (found es h) (all-imp E (λ e. All P (pair i h e)) (λ e x. f i h e (omega arith) (G .0) x) (found es h) (all-keep E (λ e. eqb (keyOf e) (keyOf h)) es F)))
       (words-all k Q E f es F hs (G .1) (suc i) (omega arith))
+
+-- what holds of each posting holds of those that vote
+pub all-voting : (P : List ℕ → Type 0) (v : Voters) (rs : List ℕ) (es : List (List ℕ)) → All P es → All P (voting v rs es)
+unfolding voting
+all-voting P v rs es h = all-keep P (λ e. mayVote v rs (getD e 1 0)) es h
 
 -- no postings, no votes
 pub gather-none : (S : Scheme) (a : S .Ask) (i : ℕ) (hs : List Hash) → gather S a i hs [] ≡ []

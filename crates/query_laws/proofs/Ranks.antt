@@ -1,23 +1,11 @@
 -- Laws of the best of ids below n. Assumes nothing.
 use mathlib.Core.Path.{_≡_, sym, ap, _∙_}
 use mathlib.Core.Option.{Option, none}
-use Prim.Native.Nat.{ℕ, zero, suc, _+_, _-_, _≤_, _<_}
+use Prim.Native.Nat.{ℕ, suc, _≤_, _<_}
 use native.Mathlib.Omega.{arith}
 use Rattle.matching.specs.declared.MatchResult.{MatchResult}
 use Rattle.model.specs.Query.{trackBest, bestBelow}
-use Rattle.model.proofs.Best.{best-ext}
-
--- ids that are no candidates change nothing
-skip : (f : ℕ → Option MatchResult) (a d : ℕ) → ((j : ℕ) → a ≤ j → f j ≡ none) → bestBelow (a + d) f ≡ bestBelow a f
-unfolding bestBelow
-skip f a zero h = let e : a + 0 ≡ a = omega arith in rw e
-skip f a (suc d) h =
-    let ih = skip f a d h in
-    let e : a + suc d ≡ suc (a + d) = omega arith in
-    rw (e, h (a + d) (omega arith)) ih
-
-pub best-skip : (f : ℕ → Option MatchResult) (a n : ℕ) → a ≤ n → ((j : ℕ) → a ≤ j → f j ≡ none) → bestBelow n f ≡ bestBelow a f
-best-skip f a n le h = let e : a + (n - a) ≡ n = omega arith in rw e at (skip f a (n - a) h)
+use Rattle.model.proofs.Best.{best-ext, best-skip}
 
 pub best-none : (f : ℕ → Option MatchResult) (n : ℕ) → ((j : ℕ) → f j ≡ none) → bestBelow n f ≡ none
 unfolding bestBelow

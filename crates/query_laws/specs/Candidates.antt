@@ -2,7 +2,7 @@
 use mathlib.Core.Bool.{Bool, true, cond}
 use mathlib.Core.Path.{_≡_}
 use mathlib.Core.List.{List, [], _∷_, map}
-use mathlib.Core.Option.{Option, none, some}
+use mathlib.Core.Option.{Option, none}
 use Prim.Native.Nat.{ℕ, _*_, _≤_, _<_}
 use lib.IntN.{ℤ, pos}
 use lib.ListN.{length, getD}
@@ -15,7 +15,7 @@ use Rattle.model.specs.Rows.{Row}
 use Rattle.model.specs.Query.{bestBelow}
 use Rattle.model.specs.Calls.{Answer, refused, answerOf}
 use Rattle.model.specs.Soundness.{rowWord}
-use Rattle.model.specs.Words.{atRate, atRmax}
+use Rattle.model.specs.Words.{atRate, atRmax, atSet}
 
 -- how an index reads the word of a vote, and judges a recording by its row and its votes
 pub record Reading (Vote : Type 0) : Type 0 where
@@ -25,7 +25,7 @@ pub record Reading (Vote : Type 0) : Type 0 where
 
 -- the row of recording j
 abbrev pub rowAt : List ℕ → ℕ → Row
-rowAt rs j = record { rate = rowWord rs j atRate; rmax = rowWord rs j atRmax }
+rowAt rs j = record { rate = rowWord rs j atRate; rmax = rowWord rs j atRmax; set = rowWord rs j atSet }
 
 module _ {Vote : Type 0} (R : Reading Vote) where
   -- the words of recording j; its votes

@@ -1,4 +1,4 @@
-// The refusals of a query that come before its votes are counted: 1 to 4, of either index.
+// The refusals of a query that come before its votes are counted: 1 to 4 and 9, of either index.
 ghost use mathlib.Core.Path.{_≡_};
 ghost use Prim.Native.Nat.{_≤_};
 ghost use Rattle.model.specs.Calls.{scratchListed};
@@ -23,7 +23,7 @@ fn is_whole(n: usize, v: usize) -> bool
 }
 
 // Why a query is refused before its votes are counted, 0 where it is not: `scratch` words are lent, `per_vote` for a vote; `beyond` says
-// whether a setting is beyond its limit.
+// whether a setting is beyond its limit, and `set` is the set that is asked for.
 pub fn of_query(
     refs: &[u32],
     posts: &[u32],
@@ -33,9 +33,10 @@ pub fn of_query(
     per_vote: usize,
     hashes: &[u32],
     beyond: bool,
+    set: u32,
 ) -> u32
     requires { ⌜ (3 ≤ w) × (1 ≤ «per_vote») ⌝ }
-    ensures { λ r. ⌜ r ≡ earlyRefusal w «per_vote» (words (now (refs .entry)) (now (posts .entry)) (now (stops .entry))) scratch (now (hashes .entry)) beyond ⌝ }
+    ensures { λ r. ⌜ r ≡ earlyRefusal w «per_vote» (words (now (refs .entry)) (now (posts .entry)) (now (stops .entry))) scratch (now (hashes .entry)) beyond set ⌝ }
 {
     if !is_whole(scratch, per_vote) {
         return 1;
@@ -49,6 +50,9 @@ pub fn of_query(
     }
     if beyond {
         return 4;
+    }
+    if rows::SET_MOST < set {
+        return 9;
     }
     0
 }

@@ -2,5 +2,7 @@
 pub mod Steps
 pub mod Levels
 pub mod Meeting
+pub mod Voting
+pub mod Counting
 pub mod Walks
 pub mod Eighths

@@ -1,5 +1,5 @@
 -- The postings that query hashes meet: those under a key stand between the first at it and the first above it. Assumes nothing.
-use mathlib.Core.Path.{_≡_, refl, ap, sym, _∙_}
+use mathlib.Core.Path.{_≡_, refl, ap, ap₂, sym, _∙_}
 use mathlib.Core.Bool.{Bool, true, false, _&&_}
 use mathlib.Core.Logic.{_⊎_, inl, inr}
 use mathlib.Core.List.{List, [], _∷_, _++_}
@@ -7,7 +7,7 @@ use Prim.Native.Nat.{ℕ, zero, suc, _+_, _*_, _-_, _/_, _≤_, _<_}
 use native.Mathlib.Numerals.{add-one}
 use native.Mathlib.Nat.{eq-or-lt-of-le, mul-sub, mul-le-mul-left, mul-div-cancel-left}
 use native.Mathlib.Omega.{arith}
-use lib.ListN.{length, getD, set, length-take, length-drop}
+use lib.ListN.{length, getD, drop, set, length-take, length-drop}
 use lib.Seq.{getD-set-same, getD-set-other}
 use lib.Dec.{eqb, ltb}
 use borrow.Author.Tests.{eqb-true, eqb-false, ltb-true, ltb-false, lt-ltb, le-ltb}
@@ -15,10 +15,10 @@ use Rattle.lists.specs.Lists.{sum}
 use Rattle.lists.specs.Keys.{under}
 use Rattle.lists.specs.Entries.{entries, entryAt, keyOf, keyAt, keysAscend}
 use Rattle.lists.proofs.Tests.{test}
-use Rattle.lists.proofs.Entries.{stride, entries-none, entries-suc, entry-key}
+use Rattle.lists.proofs.Entries.{stride, entries-none, entries-suc, entries-take, entry-key}
 use Rattle.maps.specs.Sums.{when}
 use Rattle.maps.specs.Entries.{firstAt}
-use Rattle.maps.proofs.Entries.{first-splits, first-le, first-after, first-upto, under-part, part-length}
+use Rattle.maps.proofs.Entries.{first-splits, first-le, first-after, first-upto, under-part, part-length, part-entries}
 use Rattle.query_search.specs.Starts.{Ends, met}
 
 -- ---- those under one key
@@ -92,6 +92,15 @@ module _ (ps : List ℕ) (w p key : ℕ) (t : keysAscend ps w p ≡ true) where
       let inside : w * b ≤ w * p = mul-le-mul-left w (first-splits ps w p (key + 1) t .within) in
       let part : w * n ≡ w * (b - a) = sym (part-length ps w p key fits) ∙ ap length (under-part ps w p key a b w1 t refl refl) ∙ rw (length-take, length-drop, mul-sub) (omega (arith, inside)) in
       sym (mul-div-cancel-left n (omega arith)) ∙ ap (λ (k : ℕ). k / w) part ∙ mul-div-cancel-left (b - a) (omega arith)
+
+  -- they stand together
+  pub under-entries : 1 ≤ w → w * p ≤ length ps → under keyOf key (entries w p ps) ≡ entries w (firstAt ps w p (key + 1) - firstAt ps w p key) (drop (w * firstAt ps w p key) ps)
+  under-entries w1 fits =
+      let a = firstAt ps w p key in
+      let b = firstAt ps w p (key + 1) in
+      let m : w * b - w * a ≡ w * (b - a) = sym (mul-sub w b a) in
+      sym (part-entries ps w p key fits) ∙ ap₂ (λ (n : ℕ) (l : List ℕ). entries w n l) (under-many w1 fits) (under-part ps w p key a b w1 t refl refl)
+      ∙ rw m (entries-take w (b - a) (drop (w * a) ps))
 
 -- ---- those of the first i query hashes in the words hs, h words each
 module _ (es : List (List ℕ)) where

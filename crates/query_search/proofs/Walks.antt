@@ -16,6 +16,10 @@ use Rattle.lists.proofs.Entries.{entries-none, entries-suc, entries-append, ent
 use Rattle.maps.proofs.Entries.{part-length}
 use Rattle.query_search.specs.Gathered.{wordsBy, Pairing, wordsOf, wordsFrom, Ids}
 
+pub none-of : {A : Type 0} (l : List A) → length l ≡ 0 → l ≡ []
+none-of [] e = refl
+none-of (x ∷ l) e = absurd (omega arith)
+
 -- ---- the part under a key
 
 module _ (w : ℕ) (ps : List ℕ) (p : ℕ) (key : ℕ) where

@@ -1,4 +1,4 @@
-// Where the postings of each query hash begin and end, and how many they are.
+// Where the postings of each query hash begin and end, whose postings vote, and how many do.
 ghost use mathlib.Core.Path.{_≡_};
 ghost use mathlib.Core.Bool.{true, _&&_};
 ghost use Prim.Native.Nat.{ℕ, _+_, _*_, _-_, _/_, _^_, _≤_, _<_, min};
@@ -10,6 +10,7 @@ ghost use Rattle.lists.specs.Entries.{entries, keyAt, keyOf, keysAscend};
 ghost use Rattle.maps.specs.Sums.{when};
 ghost use Rattle.maps.specs.Entries.{firstAt};
 ghost use Rattle.query_search.specs.Starts.{Starts, Ends, met, Zeros, Windows, Sought, pivotsBelow};
+ghost use Rattle.query_search.specs.Voting.{mayVote, voting, HasRow, Rowed};
 
 // `half` where x is below the key, and nothing where not. It has no branch, which would be mispredicted every other time: the upper half of
 // x − key is all ones just where x is below the key.
@@ -221,11 +222,59 @@ fn first_under(posts: &[u32], w: usize, p: usize, a: usize, key: u32) -> usize
     0
 }
 
-// How many postings m hashes meet, held at one more than the room: the counting ends at the posting that passes it. Where it is not passed,
-// `ends` says where the postings of each hash end.
+// Whose postings vote in a query: the recordings of a set, 0 for all.
+pub struct Voters {
+    pub set: u32,
+}
+
+// Whether a recording may vote. Where all may, no row is read.
+pub fn may_vote(refs: &[u32], voters: Voters, id: u32) -> bool
+    requires { ⌜ HasRow (now refs) id ⌝ }
+    ensures { λ r. ⌜ r ≡ mayVote voters (now (refs .entry)) id ⌝ }
+{
+    if voters.set == 0 {
+        return true;
+    }
+    rows::row_word(refs, slices::size(id), rows::AT_SET) == voters.set
+}
+
+// 1 where the posting at word e votes, and 0 where not.
+pub fn votes_at(refs: &[u32], voters: Voters, posts: &[u32], e: usize) -> usize
+    requires { ⌜ (e + 1 < length (now posts)) × HasRow (now refs) (getD (now posts) (e + 1) 0) ⌝ }
+    ensures { λ r. ⌜ (r ≡ when (mayVote voters (now (refs .entry)) (getD (now (posts .entry)) (e + 1) 0)) 1) × (r ≤ 1) ⌝ }
+{
+    let id = posts[e + 1];
+    if may_vote(refs, voters, id) { 1 } else { 0 }
+}
+
+// How many of the n postings, none or one, that stand under a key at word a vote. Where all may, nothing is read; else there is no branch on n.
+pub fn first_votes(
+    refs: &[u32],
+    voters: Voters,
+    posts: &[u32],
+    last: usize,
+    a: usize,
+    n: usize,
+) -> usize
+    requires { ⌜ (a < last → (a + 1 < length (now posts)) × HasRow (now refs) (getD (now posts) (a + 1) 0)) × (last ≤ a → n ≡ 0) × (n ≤ 1) ⌝ }
+    ensures { λ r. ⌜ (r ≡ when (mayVote voters (now (refs .entry)) (getD (now (posts .entry)) (a + 1) 0)) n) × (r ≤ n) ⌝ }
+{
+    if voters.set == 0 {
+        return n;
+    }
+    if a < last {
+        return n * votes_at(refs, voters, posts, a);
+    }
+    0
+}
+
+// How many postings that vote m hashes meet, held at one more than the room: the counting ends at the vote that passes it. Where it is not
+// passed, `ends` says where the postings of each hash end, whoever they are of.
 pub fn meet(
     ends: &mut [u32],
     starts: &[u32],
+    refs: &[u32],
+    voters: Voters,
     posts: &[u32],
     w: usize,
     p: usize,
@@ -234,8 +283,8 @@ pub fn meet(
     m: usize,
     room: usize,
 ) -> usize
-    requires { ⌜ Sought (now posts) w p (now hashes) h m × Starts (now posts) w p (now hashes) h m (now starts) × (m ≤ length (now starts)) × (m ≤ length (now ends)) × (room ≤ 1000000) ⌝ }
-    ensures { λ r. ⌜ r ≡ min (room + 1) (met (entries w p (now (posts .entry))) (entries h m (now (hashes .entry)))) ⌝ }
+    requires { ⌜ Sought (now posts) w p (now hashes) h m × Starts (now posts) w p (now hashes) h m (now starts) × (m ≤ length (now starts)) × (m ≤ length (now ends)) × (room ≤ 1000000) × Rowed (now refs) (now posts) w p ⌝ }
+    ensures { λ r. ⌜ r ≡ min (room + 1) (met (voting voters (now (refs .entry)) (entries w p (now (posts .entry)))) (entries h m (now (hashes .entry)))) ⌝ }
     ensures { λ r. ⌜ (r ≤ room → Ends (now (posts .entry)) w p (now (hashes .entry)) h m (now (ends .exit))) ⌝ }
 {
     let last = w * p;
@@ -245,13 +294,13 @@ pub fn meet(
         let key = maps::key_at(hashes, h, i);
         let a = starts[i] as usize;
         let n = first_under(posts, w, p, a, key);
-        v += n;
+        v += first_votes(refs, voters, posts, last, a, n);
         if room < v {
             break 'hashes;
         }
         let mut e = a + w * n;
         while is_under(posts, last, e, key) {
-            v += 1;
+            v += votes_at(refs, voters, posts, e);
             if room < v {
                 break 'hashes;
             }

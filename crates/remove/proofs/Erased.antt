@@ -49,7 +49,7 @@ module _ (os : List (Option Row)) (es : List ℕ) (id : ℕ) (here : id < length
   long = length-set os id none
 
   -- the row is dead
-  row-dead : set (rowEntries os es) id (noRate ∷ 0 ∷ 0 ∷ getD (getD (rowEntries os es) id []) atVacant 0 ∷ []) ≡ rowEntries dead es
+  row-dead : set (rowEntries os es) id (noRate ∷ 0 ∷ 0 ∷ getD (getD (rowEntries os es) id []) atVacant 0 ∷ 0 ∷ []) ≡ rowEntries dead es
   row-dead = rw (row-at os es id here, entry-word-is (getD os id none) (getD es id 0)) (sym (rows-set os es id none))
 
   -- and the id the last of the vacant entries
@@ -66,11 +66,11 @@ module _ (os : List (Option Row)) (es : List ℕ) (id : ℕ) (here : id < length
 
 -- the header, a row and a vacant entry written
 vacated-headed : (n v p k : ℕ) (es : List (List ℕ)) (rest : List ℕ) (id held : ℕ) → Wide rowWidth es → id < length es → v < length es
-    → (fs : List (List ℕ)) → set es id (noRate ∷ 0 ∷ 0 ∷ getD (getD es id []) atVacant 0 ∷ []) ≡ fs → Wide rowWidth fs → length fs ≡ length es
+    → (fs : List (List ℕ)) → set es id (noRate ∷ 0 ∷ 0 ∷ getD (getD es id []) atVacant 0 ∷ 0 ∷ []) ≡ fs → Wide rowWidth fs → length fs ≡ length es
     → vacated (headed n v p k es rest) id held ≡ headed n (v + 1) held k (set fs v (set (getD fs v []) 3 id)) rest
 unfolding vacated headed
 vacated-headed n v p k es rest id held h here room fs e g long =
-    ap (λ (l : List ℕ). headerPut (entryPut l v id) n (v + 1) held k) (row-headed n v p k es rest id noRate 0 0 h here ∙ ap (λ (l : List (List ℕ)). headed n v p k l rest) e)
+    ap (λ (l : List ℕ). headerPut (entryPut l v id) n (v + 1) held k) (row-headed n v p k es rest id noRate 0 0 0 h here ∙ ap (λ (l : List (List ℕ)). headed n v p k l rest) e)
     ∙ ap (λ (l : List ℕ). headerPut l n (v + 1) held k) (entry-headed n v p k fs rest v id g (rw long room))
     ∙ header-headed n v p k (set fs v (set (getD fs v []) 3 id)) rest n (v + 1) held k
 

@@ -9,7 +9,7 @@ use Rattle.postings.specs.Retain.{staying, retained}
 
 -- row id is dead, id is the last of the vacant entries, and `held` postings are left
 unfoldable pub vacated : List ℕ → ℕ → ℕ → List ℕ
-vacated rs id held = headerPut (entryPut (rowPut rs id noRate 0 0) (getD rs 1 0) id) (getD rs 0 0) (getD rs 1 0 + 1) held (getD rs 3 0)
+vacated rs id held = headerPut (entryPut (rowPut rs id noRate 0 0 0) (getD rs 1 0) id) (getD rs 0 0) (getD rs 1 0 + 1) held (getD rs 3 0)
 
 -- the postings of the other recordings, in order
 abbrev pub others : ℕ → List ℕ → List ℕ → ℕ → List (List ℕ)

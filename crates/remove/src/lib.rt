@@ -62,6 +62,7 @@ fn vacate(refs: &mut [u32], id: u32, held: u32)
     let row = Row {
         rate: NO_RATE,
         rmax: 0,
+        set: 0,
     };
     rows::put_row(refs, size(id), row, 0);
     rows::put_entry(refs, size(v), id);

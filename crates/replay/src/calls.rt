@@ -9,6 +9,7 @@ fn build_of(
     hashes: &[u32],
     lengths: &[u32],
     rates: &[u32],
+    sets: &[u32],
     refs: &mut [u32],
     postings: &mut [u32],
     stopped: &mut [u32],
@@ -23,6 +24,7 @@ fn build_of(
             lengths,
             rates,
             limit,
+            sets,
             answer,
         );
         return;
@@ -35,11 +37,12 @@ fn build_of(
         lengths,
         rates,
         limit,
+        sets,
         answer,
     );
 }
 
-// Limit, numbers of lengths and of rates, lengths, rates, hashes.
+// Limit, numbers of lengths, of rates and of sets, lengths, rates, sets, hashes.
 fn build(
     is_wang: bool,
     line: &[u32],
@@ -49,21 +52,23 @@ fn build(
     answer: &mut [u64; 8],
 ) -> bool {
     let size = line.len();
-    if size < 3 {
+    if size < 4 {
         return false;
     }
     let limit = line[0];
-    let a = 3 + crate::count_of(line[1]);
+    let a = 4 + crate::count_of(line[1]);
     let b = a + crate::count_of(line[2]);
-    if b > size {
+    let c = b + crate::count_of(line[3]);
+    if c > size {
         return false;
     }
     build_of(
         is_wang,
         limit,
-        &line[b..],
-        &line[3..a],
+        &line[c..],
+        &line[4..a],
         &line[a..b],
+        &line[b..c],
         refs,
         postings,
         stopped,
@@ -72,7 +77,7 @@ fn build(
     true
 }
 
-// Limit, rate, hashes.
+// Limit, rate, set, hashes.
 fn insert(
     is_wang: bool,
     line: &[u32],
@@ -81,16 +86,35 @@ fn insert(
     stopped: &mut [u32],
     answer: &mut [u64; 8],
 ) -> bool {
-    if line.len() < 2 {
+    if line.len() < 3 {
         return false;
     }
     let limit = line[0];
     let rate = line[1];
+    let set = line[2];
     if is_wang {
-        capi::index::wang_index_insert(refs, postings, stopped, &line[2..], rate, limit, answer);
+        capi::index::wang_index_insert(
+            refs,
+            postings,
+            stopped,
+            &line[3..],
+            rate,
+            limit,
+            set,
+            answer,
+        );
         return true;
     }
-    capi::index::panako_index_insert(refs, postings, stopped, &line[2..], rate, limit, answer);
+    capi::index::panako_index_insert(
+        refs,
+        postings,
+        stopped,
+        &line[3..],
+        rate,
+        limit,
+        set,
+        answer,
+    );
     true
 }
 
@@ -134,7 +158,7 @@ fn live_count(
     true
 }
 
-// Rate, scale_min, scale_max, scale_bins, tolerance, min_votes, min_score, min_prominence, hashes; Wang has no use for the scales.
+// Rate, scale_min, scale_max, scale_bins, tolerance, min_votes, min_score, min_prominence, set, hashes; Wang has no use for the scales.
 fn ask_wang(
     line: &[u32],
     refs: &[u32],
@@ -143,19 +167,20 @@ fn ask_wang(
     scratch: &mut [i64],
     answer: &mut [u64; 8],
 )
-    requires { ⌜ 8 ≤ length (now line) ⌝ }
+    requires { ⌜ 9 ≤ length (now line) ⌝ }
 {
     capi::index::wang_index_query(
         refs,
         postings,
         stopped,
         scratch,
-        &line[8..],
+        &line[9..],
         line[0],
         line[4],
         line[5],
         line[6],
         line[7],
+        line[8],
         answer,
     );
 }
@@ -168,14 +193,14 @@ fn ask_panako(
     scratch: &mut [i64],
     answer: &mut [u64; 8],
 )
-    requires { ⌜ 8 ≤ length (now line) ⌝ }
+    requires { ⌜ 9 ≤ length (now line) ⌝ }
 {
     capi::index::panako_index_query(
         refs,
         postings,
         stopped,
         scratch,
-        &line[8..],
+        &line[9..],
         line[0],
         line[1],
         line[2],
@@ -184,6 +209,7 @@ fn ask_panako(
         line[5],
         line[6],
         line[7],
+        line[8],
         answer,
     );
 }
@@ -197,7 +223,7 @@ fn ask(
     scratch: &mut [i64],
     answer: &mut [u64; 8],
 )
-    requires { ⌜ 8 ≤ length (now line) ⌝ }
+    requires { ⌜ 9 ≤ length (now line) ⌝ }
 {
     if is_wang {
         ask_wang(line, refs, postings, stopped, scratch, answer);
@@ -243,7 +269,7 @@ fn ask_filled(
     filling: i64,
     answer: &mut [u64; 8],
 ) -> bool
-    requires { ⌜ 8 ≤ length (now line) ⌝ }
+    requires { ⌜ 9 ≤ length (now line) ⌝ }
 {
     fill(scratch, filling);
     ask(is_wang, line, refs, postings, stopped, scratch, answer);
@@ -260,7 +286,7 @@ fn query(
     scratch: &mut [i64],
     answer: &mut [u64; 8],
 ) -> bool {
-    if line.len() < 10 {
+    if line.len() < 11 {
         return false;
     }
     let n = crate::count_of(line[0]);

@@ -11,7 +11,7 @@ use Rattle.lists.specs.Lists.{flat}
 use Rattle.lists.specs.Entries.{Wide}
 use Rattle.lists.proofs.Keep.{all-at, all-set}
 use Rattle.model.specs.Rows.{Row}
-use Rattle.model.specs.Words.{rowWords, rowEntries, headWidth, rowWidth, rowPlace, atRate, atRmax, atLive, atVacant}
+use Rattle.model.specs.Words.{rowWords, rowEntries, headWidth, rowWidth, rowPlace, atRate, atRmax, atLive, atVacant, atSet}
 use Rattle.rows.specs.References.{headerPut, rowPut, entryPut, headed}
 
 pub header-again : (rs : List ℕ) (n v p k : ℕ) → headWidth ≤ length rs → set (set (set (set rs 0 n) 1 v) 2 p) 3 k ≡ headerPut rs n v p k
@@ -63,29 +63,31 @@ module _ (n v p k : ℕ) (es : List (List ℕ)) (rest : List ℕ) where
   -- a word of row j, where the row was written before
   again : (j f a : ℕ) (e : List ℕ) → Wide rowWidth es → j < length es → length e ≡ rowWidth → f < rowWidth
       → set (headed n v p k (set es j e) rest) (rowPlace j f) a ≡ headed n v p k (set es j (set e f a)) rest
-  again j f a e h l four g =
-      word-headed n v p k (set es j e) rest j f a (all-set (λ (e : List ℕ). length e ≡ rowWidth) es j e four h) (simp length-set l) g
+  again j f a e h l five g =
+      word-headed n v p k (set es j e) rest j f a (all-set (λ (e : List ℕ). length e ≡ rowWidth) es j e five h) (simp length-set l) g
       ∙ rw (getD-set-same es j e [] l, set-set es j e (set e f a))
 
-  -- rate bits, r_max and live of row j; its vacant entry stays
-  pub row-headed : (j rate rmax live : ℕ) → Wide rowWidth es → j < length es
-      → rowPut (headed n v p k es rest) j rate rmax live ≡ headed n v p k (set es j (rate ∷ rmax ∷ live ∷ getD (getD es j []) atVacant 0 ∷ [])) rest
+  -- row j; its vacant entry stays
+  pub row-headed : (j rate rmax live s : ℕ) → Wide rowWidth es → j < length es
+      → rowPut (headed n v p k es rest) j rate rmax live s ≡ headed n v p k (set es j (rate ∷ rmax ∷ live ∷ getD (getD es j []) atVacant 0 ∷ s ∷ [])) rest
   unfolding rowPut
-  row-headed j rate rmax live h l =
+  row-headed j rate rmax live s h l =
       let e = getD es j [] in
-      let four = all-at (λ (e : List ℕ). length e ≡ rowWidth) es [] h j l in
-      ap (λ (l : List ℕ). set (set l (rowPlace j atRmax) rmax) (rowPlace j atLive) live) (word-headed n v p k es rest j atRate rate h l (omega arith))
-      ∙ ap (λ (l : List ℕ). set l (rowPlace j atLive) live) (again j atRmax rmax (set e 0 rate) h l (simp length-set four) (omega arith))
-      ∙ again j atLive live (set (set e 0 rate) 1 rmax) h l (simp length-set four) (omega arith)
-      ∙ ap (λ (e : List ℕ). headed n v p k (set es j e) rest) (whole e four)
+      let five = all-at (λ (e : List ℕ). length e ≡ rowWidth) es [] h j l in
+      ap (λ (l : List ℕ). set (set (set l (rowPlace j atRmax) rmax) (rowPlace j atLive) live) (rowPlace j atSet) s) (word-headed n v p k es rest j atRate rate h l (omega arith))
+      ∙ ap (λ (l : List ℕ). set (set l (rowPlace j atLive) live) (rowPlace j atSet) s) (again j atRmax rmax (set e 0 rate) h l (simp length-set five) (omega arith))
+      ∙ ap (λ (l : List ℕ). set l (rowPlace j atSet) s) (again j atLive live (set (set e 0 rate) 1 rmax) h l (simp length-set five) (omega arith))
+      ∙ again j atSet s (set (set (set e 0 rate) 1 rmax) 2 live) h l (simp length-set five) (omega arith)
+      ∙ ap (λ (e : List ℕ). headed n v p k (set es j e) rest) (whole e five)
     where
-      whole : (e : List ℕ) → length e ≡ rowWidth → set (set (set e 0 rate) 1 rmax) 2 live ≡ rate ∷ rmax ∷ live ∷ getD e 3 0 ∷ []
+      whole : (e : List ℕ) → length e ≡ rowWidth → set (set (set (set e 0 rate) 1 rmax) 2 live) 4 s ≡ rate ∷ rmax ∷ live ∷ getD e 3 0 ∷ s ∷ []
       whole [] z = absurd (omega arith)
       whole (a ∷ []) z = absurd (omega arith)
       whole (a ∷ b ∷ []) z = absurd (omega arith)
       whole (a ∷ b ∷ c ∷ []) z = absurd (omega arith)
-      whole (a ∷ b ∷ c ∷ d ∷ []) z = refl
-      whole (a ∷ b ∷ c ∷ d ∷ e ∷ es) z = absurd (omega arith)
+      whole (a ∷ b ∷ c ∷ d ∷ []) z = absurd (omega arith)
+      whole (a ∷ b ∷ c ∷ d ∷ e ∷ []) z = refl
+      whole (a ∷ b ∷ c ∷ d ∷ e ∷ x ∷ es) z = absurd (omega arith)
 
 -- ---- rows and vacant entries of the index
 

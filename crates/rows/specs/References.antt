@@ -1,11 +1,11 @@
--- "References: 4 words (rows n, vacant v, postings p, stopped k), then R rows of 4 words: rate bits, r_max, live (1 or 0), vacant entry."
--- Definitions only. Assumes nothing.
+-- "References: 4 words (rows n, vacant v, postings p, stopped k), then R rows" of 5 words: "rate bits, r_max, live (1 or 0), vacant entry",
+-- "its set". -- Definitions only. Assumes nothing.
 use mathlib.Core.Path.{_≡_}
 use mathlib.Core.List.{List, _∷_, _++_}
 use Prim.Native.Nat.{ℕ}
 use lib.ListN.{getD, drop, set}
 use Rattle.lists.specs.Lists.{flat}
-use Rattle.model.specs.Words.{headWidth, rowPlace, atRate, atRmax, atLive, atVacant}
+use Rattle.model.specs.Words.{headWidth, rowPlace, atRate, atRmax, atLive, atVacant, atSet}
 use Rattle.rows.specs.declared.Counts.{Counts}
 
 pub record CountsOf (rs : List ℕ) (h : Counts) : Type 0 where
@@ -18,9 +18,9 @@ pub record CountsOf (rs : List ℕ) (h : Counts) : Type 0 where
 unfoldable pub headerPut : List ℕ → ℕ → ℕ → ℕ → ℕ → List ℕ
 headerPut rs n v p k = n ∷ v ∷ p ∷ k ∷ drop headWidth rs
 
--- rate bits, r_max and live of row j anew
-unfoldable pub rowPut : List ℕ → ℕ → ℕ → ℕ → ℕ → List ℕ
-rowPut rs j rate rmax live = set (set (set rs (rowPlace j atRate) rate) (rowPlace j atRmax) rmax) (rowPlace j atLive) live
+-- row j anew, but for its vacant entry
+unfoldable pub rowPut : List ℕ → ℕ → ℕ → ℕ → ℕ → ℕ → List ℕ
+rowPut rs j rate rmax live s = set (set (set (set rs (rowPlace j atRate) rate) (rowPlace j atRmax) rmax) (rowPlace j atLive) live) (rowPlace j atSet) s
 
 -- vacant entry i anew
 unfoldable pub entryPut : List ℕ → ℕ → ℕ → List ℕ

@@ -3,19 +3,19 @@ ghost use mathlib.Core.Path.{_≡_};
 ghost use mathlib.Core.Bool.{cond};
 ghost use mathlib.Core.List.{map};
 ghost use Prim.Native.Nat.{_+_, _*_, _<_, _≤_, max};
-ghost use lib.ListN.{length, set};
+ghost use lib.ListN.{length, set as setAt};
 ghost use Rattle.lists.specs.Entries.{entries};
 ghost use Rattle.model.specs.Fingerprints.{hashOf, hashesOf, malformed};
-ghost use Rattle.model.specs.Rows.{hasRmax, largestAnchor, canonical};
+ghost use Rattle.model.specs.Rows.{hasRmax, largestAnchor, canonical, isSet};
 ghost use Rattle.model.specs.Soundness.{rowWord};
 ghost use Rattle.model.specs.Words.{headWidth, rowWidth, rowPlace};
 ghost use Rattle.rows.specs.References.{CountsOf, headerPut, rowPut, entryPut};
 use slices::size;
 
-// "4 words (rows n, vacant v, postings p, stopped k), then R rows of 4 words: rate bits, r_max, live (1 or 0), vacant entry"
+// "4 words (rows n, vacant v, postings p, stopped k), then R rows" of 5 words: "rate bits, r_max, live (1 or 0), vacant entry", "its set"
 pub const HEAD_WIDTH: usize = 4;
 
-pub const ROW_WIDTH: usize = 4;
+pub const ROW_WIDTH: usize = 5;
 
 pub const AT_RATE: usize = 0;
 
@@ -24,6 +24,11 @@ pub const AT_RMAX: usize = 1;
 pub const AT_LIVE: usize = 2;
 
 pub const AT_VACANT: usize = 3;
+
+pub const AT_SET: usize = 4;
+
+// "its set, 1 to 255"
+pub const SET_MOST: u32 = 255;
 
 // The rate of a dead row, and of a live one that is a NaN.
 pub const NO_RATE: u32 = floats::NAN_BITS;
@@ -40,6 +45,7 @@ pub struct Counts {
 pub struct Row {
     pub rate: u32,
     pub rmax: u32,
+    pub set: u32,
 }
 
 // The first four words.
@@ -77,7 +83,7 @@ pub fn row_word(refs: &[u32], j: usize, f: usize) -> u32
 // Writes word f of row j.
 fn put_word(refs: &mut [u32], j: usize, f: usize, x: u32)
     requires { ⌜ rowPlace j f < length (now refs) ⌝ }
-    ensures { λ _. ⌜ now (refs .exit) ≡ set (now (refs .entry)) (rowPlace j f) x ⌝ }
+    ensures { λ _. ⌜ now (refs .exit) ≡ setAt (now (refs .entry)) (rowPlace j f) x ⌝ }
 {
     refs[ROW_WIDTH * j + (HEAD_WIDTH + f)] = x;
 }
@@ -85,11 +91,12 @@ fn put_word(refs: &mut [u32], j: usize, f: usize, x: u32)
 // Writes row j but for its vacant entry.
 pub fn put_row(refs: &mut [u32], j: usize, row: Row, live: u32)
     requires { ⌜ headWidth + rowWidth * (j + 1) ≤ length (now refs) ⌝ }
-    ensures { λ _. ⌜ now (refs .exit) ≡ rowPut (now (refs .entry)) j (row .rate) (row .rmax) live ⌝ }
+    ensures { λ _. ⌜ now (refs .exit) ≡ rowPut (now (refs .entry)) j (row .rate) (row .rmax) live (row .set) ⌝ }
 {
     put_word(refs, j, AT_RATE, row.rate);
     put_word(refs, j, AT_RMAX, row.rmax);
     put_word(refs, j, AT_LIVE, live);
+    put_word(refs, j, AT_SET, row.set);
 }
 
 // Writes vacant entry i.
@@ -144,14 +151,22 @@ pub fn row_max(hashes: &[u32], w: usize) -> u32
     0
 }
 
-// The row of a recording, from its hashes and its rate.
-pub fn row_of(hashes: &[u32], w: usize, rate: u32) -> Row
+// Whether a recording can be of this set.
+pub fn is_set(set: u32) -> bool
+    ensures { λ r. ⌜ r ≡ isSet set ⌝ }
+{
+    (0 < set) & (set <= SET_MOST)
+}
+
+// The row of a recording, from its hashes, its rate and its set.
+pub fn row_of(hashes: &[u32], w: usize, rate: u32, set: u32) -> Row
     requires { ⌜ 3 ≤ w ⌝ }
-    ensures { λ r. ⌜ (r .rate ≡ canonical rate) × (r .rmax ≡ cond (hasRmax w) (largestAnchor (hashesOf w (now (hashes .entry)))) 0) ⌝ }
+    ensures { λ r. ⌜ (r .rate ≡ canonical rate) × (r .rmax ≡ cond (hasRmax w) (largestAnchor (hashesOf w (now (hashes .entry)))) 0) × (r .set ≡ set) ⌝ }
 {
     Row {
         rate: canonical_rate(rate),
         rmax: row_max(hashes, w),
+        set,
     }
 }
 

@@ -2,7 +2,7 @@
 use mathlib.Core.Path.{_≡_, refl, sym, ap, _∙_, subst}
 use mathlib.Core.Bool.{Bool, true, false}
 use mathlib.Core.List.{List, [], _∷_, _++_, append-assoc, append-nil}
-use Prim.Native.Nat.{ℕ, suc, _+_, _-_, _*_, _/_, _≤_, _<_, _^_, min}
+use Prim.Native.Nat.{ℕ, suc, _+_, _-_, _/_, _≤_, _<_, _^_, min}
 use native.Mathlib.Omega.{arith}
 use lib.Dec.{ltb, leb}
 use lib.ListN.{length, take, drop, length-drop}
@@ -13,11 +13,10 @@ use Rattle.lists.proofs.Tests.{test, and-left, not-both}
 use Rattle.model.specs.Words.{Words}
 use Rattle.sheet_text.specs.Put.{Put, lineMost}
 use Rattle.sheet_text.proofs.Puts.{nothing, join, as-text}
-use Rattle.sheet_records.specs.Step.{stepOf}
 use Rattle.sheet_card.specs.declared.Progress.{Progress}
 use Rattle.sheet_card.specs.Ends.{header}
-use Rattle.sheet_card.specs.Sheet.{lengthAt, recordAt, whole, emptyStore, sheetOf}
-use Rattle.sheet_card.specs.Turns.{Outcome, last, taken, halted, advanced, lastOf, turnOf, readOf, versionFits, limit, goesOn, startLine, started, turnLines, printed}
+use Rattle.sheet_card.specs.Sheet.{lengthAt, whole, emptyStore}
+use Rattle.sheet_card.specs.Turns.{Outcome, last, taken, halted, advanced, lastOf, turnOf, readOf, versionFits, limit, goesOn, startLine, started, turnLines}
 use Rattle.sheet_card.specs.Held.{sheetRoom, hasRoom, heldSheet, remains, Going}
 use Rattle.sheet_card.proofs.Reading.{Whole, whole-is, record-some}
 use Rattle.sheet_card.proofs.Turns.{turn-record, turn-last}

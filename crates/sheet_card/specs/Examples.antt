@@ -22,12 +22,12 @@ use Rattle.consolidate.specs.Runs.{firstGreatest, runEnd}
 use Rattle.consolidate.specs.Modes.{mode}
 use Rattle.consolidate.specs.Box.{peakOver}
 use Rattle.model.specs.Fingerprints.{hashesOf, divided, malformed}
-use Rattle.model.specs.Rows.{canonical, isCanonical, rowOf, largestAnchor}
+use Rattle.model.specs.Rows.{canonical, isCanonical, isSet, inSet, rowOf, largestAnchor}
 use Rattle.model.specs.Index.{inserted, erased, exceeds, stopKeys}
 use Rattle.model.specs.Query.{gather, tooManyVotes, candidate, bestBelow}
-use Rattle.model.specs.Calls.{insertTests, plainTests, queryTests, scratchListed, insertStep, removeStep, queryStep}
+use Rattle.model.specs.Calls.{insertTests, plainTests, earlyTests, queryTests, scratchListed, insertStep, removeStep, queryStep}
 use Rattle.model.specs.Words.{sizesOf, sizesListed, slicesListed, rowEntries, write, readIndex}
-use Rattle.model.specs.Soundness.{countsFit, liveWord, stoppedStep, deadRow, otherEntry, vacantEntry, deadFine, rateFine, liveId, postingLive, anchorFine, rmaxFine, otherKey, keyUnstopped, entryUnused, soundTests, soundWords}
+use Rattle.model.specs.Soundness.{countsFit, liveWord, stoppedStep, deadRow, otherEntry, vacantEntry, deadFine, rateFine, liveId, postingLive, anchorFine, rmaxFine, otherKey, keyUnstopped, entryUnused, setFine, soundTests, soundWords}
 use Rattle.model.specs.Run.{storeOf, runInsert, runRemove, runQuery}
 use Rattle.gates.specs.Gates.{peakGates, gates, resultAt}
 use Rattle.wang_judge.specs.Judge.{modeWithin, peakOf, distinct, seenOf, judgeBy}
@@ -136,5 +136,5 @@ table =
     ∷ []
 
 pub examples : T (all table)
-unfolding zeroed wordsOf decimalIn decimal hexDigits offsetText matchText goodLength stepOf whole recordsFrom linesOf runInsert runRemove runQuery storeOf slicesListed sizesListed sizesOf soundWords soundTests countsFit liveWord stoppedStep deadRow otherEntry vacantEntry deadFine rateFine liveId postingLive anchorFine rmaxFine otherKey keyUnstopped entryUnused readIndex write rowEntries every count allTrue entries keysAscend zeroWord zeroFrom padded keep some? flat sum insertKey place placeAll insertStep removeStep queryStep insertTests plainTests queryTests scratchListed inserted erased exceeds stopKeys hashesOf divided malformed rowOf canonical isCanonical largestAnchor gather tooManyVotes candidate bestBelow better modeWithin peakOf distinct seenOf peakGates gates resultAt judgeBy beyond judge counting.countIf sumTo sumToℤ greatest first firstGreatest runEnd mode peakOver millis ratesAgree clampScore wangProminence scoreOf roundToI64 abs maximum nanBits ofBits toBits add sub mul div le lt ofInt isNan round
+unfolding zeroed wordsOf decimalIn decimal hexDigits offsetText matchText goodLength stepOf whole recordsFrom linesOf runInsert runRemove runQuery storeOf slicesListed sizesListed sizesOf soundWords soundTests countsFit liveWord stoppedStep deadRow otherEntry vacantEntry deadFine rateFine liveId postingLive anchorFine rmaxFine otherKey keyUnstopped entryUnused setFine readIndex write rowEntries every count allTrue entries keysAscend zeroWord zeroFrom padded keep some? flat sum insertKey place placeAll insertStep removeStep queryStep insertTests plainTests earlyTests queryTests scratchListed inserted erased exceeds stopKeys hashesOf divided malformed rowOf canonical isCanonical isSet inSet largestAnchor gather tooManyVotes candidate bestBelow better modeWithin peakOf distinct seenOf peakGates gates resultAt judgeBy beyond judge counting.countIf sumTo sumToℤ greatest first firstGreatest runEnd mode peakOver millis ratesAgree clampScore wangProminence scoreOf roundToI64 abs maximum nanBits ofBits toBits add sub mul div le lt ofInt isNan round
 examples = tt

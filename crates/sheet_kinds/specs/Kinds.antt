@@ -25,9 +25,16 @@ pub record Kind : Type 0 where
   pub hashes : Bool
   pub call : List ℕ → Call wang
 
+-- "The sheet stores under set 1 and asks for 0."
+abbrev pub storedSet : ℕ
+storedSet = 1
+
+abbrev pub askedSet : ℕ
+askedSet = 0
+
 -- "01 insert: limit, rate bits, hashes (key, t_anchor)."
 abbrev pub insertCall : List ℕ → Call wang
-insertCall ws = insert (getD ws 0 0) (getD ws 1 0) (drop 2 ws)
+insertCall ws = insert (getD ws 0 0) (getD ws 1 0) storedSet (drop 2 ws)
 
 -- "02 remove: id."
 abbrev pub removeCall : List ℕ → Call wang
@@ -35,7 +42,7 @@ removeCall ws = remove (getD ws 0 0)
 
 -- "03 query: tolerance, min_votes, min_score bits, min_prominence bits, rate bits, hashes."
 abbrev pub queryOf : List ℕ → Query wang
-queryOf ws = queryWith (configOf (getD ws 0 0) (getD ws 1 0) (getD ws 2 0) (getD ws 3 0)) (ofBits binary32 (getD ws 4 0)) (drop 5 ws) scratchWords
+queryOf ws = queryWith (configOf (getD ws 0 0) (getD ws 1 0) (getD ws 2 0) (getD ws 3 0)) (ofBits binary32 (getD ws 4 0)) askedSet (drop 5 ws) scratchWords
 
 abbrev pub queryCall : List ℕ → Call wang
 queryCall ws = query (queryOf ws)

@@ -28,8 +28,8 @@ pub stepped-by : {l l' : List ℕ} {at end : ℕ} {m : Words} {o : Answer × Wor
 stepped-by ws a p h e = stepped-as (record { line = p; short = h; store = refl }) (ap (λ (y : Answer × Words). lineAndStore ws y) e)
 
 -- a query by its parts
-pub same-asked : {c c' : WangMatchConfig} {r r' : Float} {hs hs' : List ℕ} {n n' : ℕ} → c ≡ c' → r ≡ r' → hs ≡ hs' → n ≡ n' → queryWith c r hs n ≡ queryWith c' r' hs' n'
-same-asked e f g h i = queryWith (e i) (f i) (g i) (h i)
+pub same-asked : {c c' : WangMatchConfig} {r r' : Float} {set : ℕ} {hs hs' : List ℕ} {n n' : ℕ} → c ≡ c' → r ≡ r' → hs ≡ hs' → n ≡ n' → queryWith c r set hs n ≡ queryWith c' r' set hs' n'
+same-asked {set = set} e f g h i = queryWith (e i) (f i) set (g i) (h i)
 
 pub zeros-length : (s : List ℤ) → s ≡ zeroScratch → length s ≡ scratchWords
 unfolding zeroScratch

@@ -11,6 +11,11 @@ ghost use Rattle.sheet_text.specs.Put.{lineMost};
 ghost use Rattle.sheet_records.specs.Step.{lineAndStore, stepBy, stepOf, Stepped};
 use wang::WangIndex;
 
+// "The sheet stores under set 1 and asks for 0."
+const STORED_SET: u32 = 1;
+
+const ASKED_SET: u32 = 0;
+
 // 01: limit, rate bits, hashes.
 fn insert_record(
     fields: &[u32],
@@ -26,7 +31,15 @@ fn insert_record(
 {
     let limit = fields[0];
     let rate = fields[1];
-    let answer = WangIndex::insert(refs, postings, stopped, &fields[2..], rate, limit);
+    let answer = WangIndex::insert(
+        refs,
+        postings,
+        stopped,
+        &fields[2..],
+        rate,
+        limit,
+        STORED_SET,
+    );
     sheet_lines::put_insertion(line, at, answer)
 }
 
@@ -66,7 +79,16 @@ fn query_record(
 {
     let cfg = wang_judge::config_of(fields[0], fields[1], fields[2], fields[3]);
     let rate = floats::f32_from_bits(fields[4]);
-    let answer = WangIndex::query(refs, postings, stopped, scratch, &fields[5..], rate, cfg);
+    let answer = WangIndex::query(
+        refs,
+        postings,
+        stopped,
+        scratch,
+        &fields[5..],
+        rate,
+        cfg,
+        ASKED_SET,
+    );
     sheet_lines::put_finding(line, at, answer)
 }
 

@@ -10,9 +10,9 @@ use lib.Ieee.Bits.{nanBits-above}
 use borrow.Author.Tests.{leb-true, leb-false, lt-ltb, le-ltb, eq-eqb, ne-eqb}
 use Rattle.lists.proofs.Tests.{test}
 use Rattle.model.specs.Rows.{hasRmax, noRate, isCanonical}
-use Rattle.model.specs.Soundness.{rowWord, liveWord, deadFine, rateFine, rmaxFine, deadRow, entryUnused}
-use Rattle.model.specs.Words.{atRate, atRmax, atLive, atVacant}
-use Rattle.soundness.specs.Scan.{rowTest, rowFine}
+use Rattle.model.specs.Soundness.{rowWord, liveWord, setFine, deadFine, rateFine, rmaxFine, deadRow, entryUnused}
+use Rattle.model.specs.Words.{atRate, atRmax, atLive, atVacant, atSet}
+use Rattle.soundness.specs.Scan.{setTest, rowTest, rowFine}
 
 -- "a live NaN rate is stored as that word"
 pub canonical-yes : (rate : ℕ) → rate ≡ noRate → isCanonical rate ≡ true
@@ -32,19 +32,20 @@ canonical-test rate d = rw (ne-eqb rate noRate d, nanBits-above binary32 rate) (
         (λ e. rw (e, le-ltb b a (leb-true a b e)))
         (λ e. rw (e, lt-ltb b a (leb-false a b e)))
 
--- the four conditions on a row, from its words
-pub row-fine : (w : ℕ) (rs : List ℕ) (j : ℕ) → rowTest w (rowWord rs j atRate) (rowWord rs j atRmax) (rowWord rs j atLive) ≡ rowFine w rs j
-unfolding rowTest rowFine liveWord deadFine rateFine rmaxFine deadRow
-row-fine w rs j = same (leb (rowWord rs j atLive) 1) (eqb (rowWord rs j atLive) 0) (eqb (rowWord rs j atRate) noRate) (eqb (rowWord rs j atRmax) 0) (isCanonical (rowWord rs j atRate)) (hasRmax w)
+-- the five conditions on a row, from its words
+pub row-fine : (w : ℕ) (rs : List ℕ) (j : ℕ) → rowTest w (rowWord rs j atRate) (rowWord rs j atRmax) (rowWord rs j atLive) (rowWord rs j atSet) ≡ rowFine w rs j
+unfolding setTest rowTest rowFine liveWord setFine deadFine rateFine rmaxFine deadRow
+row-fine w rs j = same (leb (rowWord rs j atLive) 1) (setTest (rowWord rs j atLive) (rowWord rs j atSet)) (eqb (rowWord rs j atLive) 0) (eqb (rowWord rs j atRate) noRate) (eqb (rowWord rs j atRmax) 0) (isCanonical (rowWord rs j atRate)) (hasRmax w)
   where
-    same : (live dead none nought fine wang : Bool)
-        → live && cond dead (none && nought) (fine && (wang || nought)) ≡ live && ((not dead || (none && nought)) && ((dead || fine) && (wang || nought)))
-    same false dead none nought fine wang = refl
-    same true false none nought fine wang = refl
-    same true true false nought fine wang = refl
-    same true true true false fine wang = refl
-    same true true true true fine true = refl
-    same true true true true fine false = refl
+    same : (live set dead none nought fine wang : Bool)
+        → live && (set && cond dead (none && nought) (fine && (wang || nought))) ≡ live && (set && ((not dead || (none && nought)) && ((dead || fine) && (wang || nought))))
+    same false set dead none nought fine wang = refl
+    same true false dead none nought fine wang = refl
+    same true true false none nought fine wang = refl
+    same true true true false nought fine wang = refl
+    same true true true true false fine wang = refl
+    same true true true true true fine true = refl
+    same true true true true true fine false = refl
 
 -- vacant entries that are not in use, from entry a on
 module _ (s : List ℕ) (a i : ℕ) (h : a ≤ i) where

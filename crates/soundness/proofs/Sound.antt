@@ -14,7 +14,7 @@ use Rattle.lists.proofs.Tests.{and-left, and-right, yes-and, no-and, both-true,
 use Rattle.lists.proofs.Every.{every-and}
 use Rattle.model.specs.Calls.{Sizes}
 use Rattle.model.specs.Words.{roomIn, sizesOf, sizesListed, between, slicesListed, headWidth, rowWidth}
-use Rattle.model.specs.Soundness.{countsFit, liveWord, stoppedStep, deadRow, vacantEntry, deadFine, rateFine, postingLive, anchorFine, rmaxFine, keyUnstopped, entryUnused, soundTests, soundWords}
+use Rattle.model.specs.Soundness.{countsFit, liveWord, stoppedStep, deadRow, vacantEntry, deadFine, rateFine, postingLive, anchorFine, rmaxFine, keyUnstopped, entryUnused, setFine, soundTests, soundWords}
 use Rattle.model.proofs.Stores.{sizes-listed, references-long, postings-long}
 use Rattle.soundness.specs.Scan.{words, rowFine, entryFine, rowsSound, postingsSound, stopsAscend, stoppedSound, soundAt, Fits}
 
@@ -27,36 +27,38 @@ counts-last z n v p k a b c = rw (le-leb n (z .R) a, le-leb v n b, le-leb p (z .
 
 -- ---- several tests in one pass
 
-module _ (a b c d : ℕ → Bool) (n : ℕ) where
-  four : every n (λ j. a j && (b j && (c j && d j))) ≡ every n a && (every n b && (every n c && every n d))
-  four =
-      every-and a (λ j. b j && (c j && d j)) n
-      ∙ ap (λ (t : Bool). every n a && t) (every-and b (λ j. c j && d j) n ∙ ap (λ (t : Bool). every n b && t) (every-and c d n))
+module _ (a b c d e : ℕ → Bool) (n : ℕ) where
+  five : every n (λ j. a j && (b j && (c j && (d j && e j)))) ≡ every n a && (every n b && (every n c && (every n d && every n e)))
+  five =
+      every-and a (λ j. b j && (c j && (d j && e j))) n
+      ∙ ap (λ (t : Bool). every n a && t) (every-and b (λ j. c j && (d j && e j)) n
+      ∙ ap (λ (t : Bool). every n b && t) (every-and c (λ j. d j && e j) n ∙ ap (λ (t : Bool). every n c && t) (every-and d e n)))
 
-rows-are : (w : ℕ) (rs : List ℕ) (n : ℕ) → every n (rowFine w rs) ≡ every n (liveWord rs) && (every n (deadFine rs) && (every n (rateFine rs) && every n (rmaxFine w rs)))
+rows-are : (w : ℕ) (rs : List ℕ) (n : ℕ) → every n (rowFine w rs) ≡ every n (liveWord rs) && (every n (setFine rs) && (every n (deadFine rs) && (every n (rateFine rs) && every n (rmaxFine w rs))))
 unfolding rowFine
-rows-are w rs n = four (liveWord rs) (deadFine rs) (rateFine rs) (rmaxFine w rs) n
+rows-are w rs n = five (liveWord rs) (setFine rs) (deadFine rs) (rateFine rs) (rmaxFine w rs) n
 
 entries-are : (w : ℕ) (rs : List ℕ) (n : ℕ) (ps : List ℕ) (p : ℕ) → every p (entryFine w rs n ps) ≡ every p (postingLive w rs n ps) && every p (anchorFine w rs ps)
 unfolding entryFine
 entries-are w rs n ps p = every-and (postingLive w rs n ps) (anchorFine w rs ps) p
 
 -- the same tests in another order
-order : (fit live dead rate rmax count vacant unused rows up ids anchors posts stops none keys : Bool)
-    → fit && (((live && (dead && (rate && rmax))) && (count && (vacant && (unused && rows)))) && (((up && (ids && anchors)) && posts) && (stops && (none && keys))))
-    ≡ allTrue (fit ∷ live ∷ up ∷ stops ∷ count ∷ vacant ∷ dead ∷ rate ∷ ids ∷ anchors ∷ rmax ∷ none ∷ rows ∷ unused ∷ posts ∷ keys ∷ [])
-order fit live dead rate rmax count vacant unused rows up ids anchors posts stops none keys = both-ways
-    (fit && (((live && (dead && (rate && rmax))) && (count && (vacant && (unused && rows)))) && (((up && (ids && anchors)) && posts) && (stops && (none && keys)))))
-    (allTrue (fit ∷ live ∷ up ∷ stops ∷ count ∷ vacant ∷ dead ∷ rate ∷ ids ∷ anchors ∷ rmax ∷ none ∷ rows ∷ unused ∷ posts ∷ keys ∷ []))
+order : (fit live sets dead rate rmax count vacant unused rows up ids anchors posts stops none keys : Bool)
+    → fit && (((live && (sets && (dead && (rate && rmax)))) && (count && (vacant && (unused && rows)))) && (((up && (ids && anchors)) && posts) && (stops && (none && keys))))
+    ≡ allTrue (fit ∷ live ∷ up ∷ stops ∷ count ∷ vacant ∷ dead ∷ rate ∷ ids ∷ anchors ∷ rmax ∷ none ∷ rows ∷ unused ∷ posts ∷ keys ∷ sets ∷ [])
+order fit live sets dead rate rmax count vacant unused rows up ids anchors posts stops none keys = both-ways
+    (fit && (((live && (sets && (dead && (rate && rmax)))) && (count && (vacant && (unused && rows)))) && (((up && (ids && anchors)) && posts) && (stops && (none && keys)))))
+    (allTrue (fit ∷ live ∷ up ∷ stops ∷ count ∷ vacant ∷ dead ∷ rate ∷ ids ∷ anchors ∷ rmax ∷ none ∷ rows ∷ unused ∷ posts ∷ keys ∷ sets ∷ []))
     (λ e.
     let a = and-right fit _ e in
-    let b = and-left ((live && (dead && (rate && rmax))) && (count && (vacant && (unused && rows)))) _ a in
-    let c = and-left (live && (dead && (rate && rmax))) _ b in
-    let d = and-right live _ c in
-    let f = and-right (live && (dead && (rate && rmax))) _ b in
+    let b = and-left ((live && (sets && (dead && (rate && rmax)))) && (count && (vacant && (unused && rows)))) _ a in
+    let c = and-left (live && (sets && (dead && (rate && rmax)))) _ b in
+    let q = and-right live _ c in
+    let d = and-right sets _ q in
+    let f = and-right (live && (sets && (dead && (rate && rmax)))) _ b in
     let g = and-right count _ f in
     let h = and-right vacant _ g in
-    let k = and-right ((live && (dead && (rate && rmax))) && (count && (vacant && (unused && rows)))) _ a in
+    let k = and-right ((live && (sets && (dead && (rate && rmax)))) && (count && (vacant && (unused && rows)))) _ a in
     let l = and-left ((up && (ids && anchors)) && posts) _ k in
     let m = and-left (up && (ids && anchors)) _ l in
     let n = and-right up _ m in
@@ -65,19 +67,19 @@ order fit live dead rate rmax count vacant unused rows up ids anchors posts stop
     all-more _ _ (and-left fit _ e) (all-more _ _ (and-left live _ c) (all-more _ _ (and-left up _ m) (all-more _ _ (and-left stops _ o)
     (all-more _ _ (and-left count _ f) (all-more _ _ (and-left vacant _ g) (all-more _ _ (and-left dead _ d) (all-more _ _ (and-left rate rmax (and-right dead _ d))
     (all-more _ _ (and-left ids anchors n) (all-more _ _ (and-right ids anchors n) (all-more _ _ (and-right rate rmax (and-right dead _ d)) (all-more _ _ (and-left none keys p)
-    (all-more _ _ (and-right unused rows h) (all-more _ _ (and-left unused rows h) (all-more _ _ (and-right (up && (ids && anchors)) posts l) (all-more _ _ (and-right none keys p) all-none))))))))))))))))
+    (all-more _ _ (and-right unused rows h) (all-more _ _ (and-left unused rows h) (all-more _ _ (and-right (up && (ids && anchors)) posts l) (all-more _ _ (and-right none keys p) (all-more _ _ (and-left sets _ q) all-none)))))))))))))))))
     (λ e.
-    let t = all-true-at (fit ∷ live ∷ up ∷ stops ∷ count ∷ vacant ∷ dead ∷ rate ∷ ids ∷ anchors ∷ rmax ∷ none ∷ rows ∷ unused ∷ posts ∷ keys ∷ []) e in
+    let t = all-true-at (fit ∷ live ∷ up ∷ stops ∷ count ∷ vacant ∷ dead ∷ rate ∷ ids ∷ anchors ∷ rmax ∷ none ∷ rows ∷ unused ∷ posts ∷ keys ∷ sets ∷ []) e in
     both-true fit _ (t 0)
-    (both-true ((live && (dead && (rate && rmax))) && (count && (vacant && (unused && rows)))) _
-    (both-true (live && (dead && (rate && rmax))) _ (both-true live _ (t 1) (both-true dead _ (t 6) (both-true rate rmax (t 7) (t 10)))) (both-true count _ (t 4) (both-true vacant _ (t 5) (both-true unused rows (t 13) (t 12)))))
+    (both-true ((live && (sets && (dead && (rate && rmax)))) && (count && (vacant && (unused && rows)))) _
+    (both-true (live && (sets && (dead && (rate && rmax)))) _ (both-true live _ (t 1) (both-true sets _ (t 16) (both-true dead _ (t 6) (both-true rate rmax (t 7) (t 10))))) (both-true count _ (t 4) (both-true vacant _ (t 5) (both-true unused rows (t 13) (t 12)))))
     (both-true ((up && (ids && anchors)) && posts) _ (both-true (up && (ids && anchors)) posts (both-true up _ (t 2) (both-true ids anchors (t 8) (t 9))) (t 14)) (both-true stops _ (t 3) (both-true none keys (t 11) (t 15))))))
 
 pub sound-is : (w : ℕ) (z : Sizes) (rs ps ss : List ℕ) (n v p k : ℕ) → soundAt w z rs ps ss n v p k ≡ allTrue (soundTests w z rs ps ss n v p k)
 unfolding soundAt soundTests rowsSound postingsSound stoppedSound stopsAscend
 sound-is w z rs ps ss n v p k =
     rw (rows-are w rs n, entries-are w rs n ps p)
-    (order (countsFit z n v p k) (every n (liveWord rs)) (every n (deadFine rs)) (every n (rateFine rs)) (every n (rmaxFine w rs)) (eqb (count n (deadRow rs)) v)
+    (order (countsFit z n v p k) (every n (liveWord rs)) (every n (setFine rs)) (every n (deadFine rs)) (every n (rateFine rs)) (every n (rmaxFine w rs)) (eqb (count n (deadRow rs)) v)
     (every v (vacantEntry rs n)) (every (n - v) (entryUnused rs v)) (zeroFrom rs (headWidth + rowWidth * n)) (keysAscend ps w p) (every p (postingLive w rs n ps)) (every p (anchorFine w rs ps))
     (zeroFrom ps (w * p)) (every (k - 1) (stoppedStep ss)) (every p (keyUnstopped w ss k ps)) (zeroFrom ss k))
 

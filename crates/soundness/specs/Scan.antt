@@ -1,4 +1,4 @@
--- Document 01's conditions as the scan looks at them, each pass in one test. Definitions only. Assumes nothing.
+-- The papers' conditions as the scan looks at them, each pass in one test. Definitions only. Assumes nothing.
 use mathlib.Core.Bool.{Bool, cond, not, _&&_, _||_}
 use mathlib.Core.List.{List}
 use Prim.Native.Nat.{ℕ, zero, suc, _+_, _*_, _-_, _≤_}
@@ -7,10 +7,10 @@ use lib.Dec.{eqb, leb}
 use denote.Ref.{RefT, now}
 use Rattle.lists.specs.Every.{every, count}
 use Rattle.lists.specs.Entries.{keyAt, keysAscend, zeroFrom}
-use Rattle.model.specs.Rows.{hasRmax, noRate, isCanonical}
+use Rattle.model.specs.Rows.{hasRmax, noRate, isCanonical, isSet}
 use Rattle.model.specs.Calls.{Sizes}
 use Rattle.model.specs.Words.{Words, slicesListed, headWidth, rowWidth, atVacant}
-use Rattle.model.specs.Soundness.{rowWord, countsFit, liveWord, deadFine, rateFine, rmaxFine, deadRow, vacantEntry, entryUnused, postingLive, anchorFine, keyUnstopped, stoppedStep, soundWords}
+use Rattle.model.specs.Soundness.{rowWord, countsFit, liveWord, deadFine, rateFine, rmaxFine, deadRow, vacantEntry, entryUnused, setFine, postingLive, anchorFine, keyUnstopped, stoppedStep, soundWords}
 
 -- the three slices
 abbrev pub words : List ℕ → List ℕ → List ℕ → Words
@@ -21,13 +21,16 @@ abbrev pub lent : RefT (List ℕ) → RefT (List ℕ) → RefT (List ℕ) → Wo
 lent rs ps ss = words (now rs) (now ps) (now ss)
 
 -- a row in use, by its words
-unfoldable pub rowTest : ℕ → ℕ → ℕ → ℕ → Bool
-rowTest w rate rmax live =
-    leb live 1 && cond (eqb live 0) (eqb rate noRate && eqb rmax 0) (isCanonical rate && (hasRmax w || eqb rmax 0))
+unfoldable pub setTest : ℕ → ℕ → Bool
+setTest live set = cond (eqb live 0) (eqb set 0) (isSet set)
 
--- the four conditions on row j
+unfoldable pub rowTest : ℕ → ℕ → ℕ → ℕ → ℕ → Bool
+rowTest w rate rmax live set =
+    leb live 1 && (setTest live set && cond (eqb live 0) (eqb rate noRate && eqb rmax 0) (isCanonical rate && (hasRmax w || eqb rmax 0)))
+
+-- the five conditions on row j
 unfoldable pub rowFine : ℕ → List ℕ → ℕ → Bool
-rowFine w rs j = liveWord rs j && (deadFine rs j && (rateFine rs j && rmaxFine w rs j))
+rowFine w rs j = liveWord rs j && (setFine rs j && (deadFine rs j && (rateFine rs j && rmaxFine w rs j)))
 
 -- none of the first j vacant entries is x
 unfoldable pub otherThan : List ℕ → ℕ → ℕ → Bool

@@ -9,11 +9,12 @@ ghost use Rattle.lists.specs.Entries.{keyAt, keysAscend};
 ghost use Rattle.model.specs.Rows.{isCanonical};
 ghost use Rattle.model.specs.Words.{between, lengthsListed, slicesListed, headWidth, rowWidth};
 ghost use Rattle.model.specs.Soundness.{countsFit, deadRow, vacantEntry, entryUnused, keyUnstopped, soundWords};
-ghost use Rattle.soundness.specs.Scan.{words, rowTest, rowFine, entryFine, rowsSound, postingsSound, stopsAscend, stoppedSound, refusalOf, Fits};
+ghost use Rattle.soundness.specs.Scan.{words, setTest, rowTest, rowFine, entryFine, rowsSound, postingsSound, stopsAscend, stoppedSound, refusalOf, Fits};
 use postings::word;
 use rows::AT_LIVE;
 use rows::AT_RATE;
 use rows::AT_RMAX;
+use rows::AT_SET;
 use rows::AT_VACANT;
 use rows::Counts;
 use rows::HEAD_WIDTH;
@@ -84,11 +85,24 @@ fn canonical(rate: u32) -> bool
     rate % 0x8000_0000 <= 0x7F80_0000
 }
 
+// Whether the set of a row in use is 0 where it is dead, and 1 to 255 where it is live.
+fn set_test(live: u32, set: u32) -> bool
+    ensures { λ r. ⌜ r ≡ setTest live set ⌝ }
+{
+    if live == 0 {
+        return set == 0;
+    }
+    rows::is_set(set)
+}
+
 // Whether the words of a row in use are fine.
-fn row_test(w: usize, rate: u32, rmax: u32, live: u32) -> bool
-    ensures { λ r. ⌜ r ≡ rowTest w rate rmax live ⌝ }
+fn row_test(w: usize, rate: u32, rmax: u32, live: u32, set: u32) -> bool
+    ensures { λ r. ⌜ r ≡ rowTest w rate rmax live set ⌝ }
 {
     if 1 < live {
+        return false;
+    }
+    if !set_test(live, set) {
         return false;
     }
     if live == 0 {
@@ -118,6 +132,7 @@ fn rows_fine(refs: &[u32], w: usize, n: usize) -> bool
             row_word(refs, j, AT_RATE),
             row_word(refs, j, AT_RMAX),
             row_word(refs, j, AT_LIVE),
+            row_word(refs, j, AT_SET),
         ) {
             return false;
         }

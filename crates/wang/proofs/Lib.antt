@@ -1,3 +1,4 @@
--- The claim about histories for WangIndex, and what holds of refused calls.
+-- The claim about histories for WangIndex, what holds of refused calls, and of other sets.
 pub mod Demand3
 pub mod Refusals
+pub mod Sets

@@ -7,7 +7,9 @@
 -- you take a list out, the rows that named other lists, or none, stay as they are. Two things are to be known with this. If the new
 -- lists bring more votes than the box has room for, it refuses the query (R 8) and names nothing. And if a new list is so like the
 -- old ones that a key of theirs now has more entries than the limit, that key is stopped, and rows that rested on it may read
--- differently; the store's count of stopped keys then has grown, and as long as it has not, no old row is touched.
+-- differently; the store's count of stopped keys then has grown, and as long as it has not, no old row is touched. Where the lists of
+-- infants and juniors stand on one card, each under its set, and the box is asked for the juniors' set, no infants' list is ever named, and
+-- a new infants' list leaves every answer for the juniors as it was, to the bit, unless it stops a key of a juniors' list.
 --
 -- The engineer's words for this are in crate `model`, specs/Claim.antt: `Claim` is one statement over any list of build, insert, remove,
 -- live_count and query calls, refused ones included, made one after the other on any three slices of words. What is live, held and

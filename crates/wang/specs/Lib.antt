@@ -1,4 +1,5 @@
--- The claim about histories for WangIndex, worked examples of it, and what holds of refused calls.
+-- The claim about histories for WangIndex, worked examples of it, what holds of refused calls, and of other sets.
 pub mod Demand3
 pub mod Examples
 pub mod Refusals
+pub mod Sets

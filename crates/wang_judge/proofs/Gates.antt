@@ -96,6 +96,6 @@ module _ (q : WangQuery) (rate rmax : ℕ) (n : Counts) where
 
   pub judged-by : (fps : Float) → fps ≡ ofBits binary32 rate → (v : Verdict)
       → Judged (thresholdsOf q) fps (seenOf q rmax n .votes) (atPeak (seenOf q rmax n)) (resultOf fps (seenOf q rmax n)) v
-      → v ≡ verdictOf (judgeBy q (record { rate = rate; rmax = rmax }) n)
+      → v ≡ verdictOf (judgeBy q rate rmax n)
   unfolding judgeBy
   judged-by fps e v w = rw e at w

@@ -7,9 +7,9 @@ use native.Mathlib.Omega.{arith}
 use native.Mathlib.Decide.{decLt}
 use lib.IntN.{ℤ, pos, negsuc, negℤ, natAbs, _+ℤ_, _-ℤ_, +ℤ-comm, +ℤ-negℤ-cancel, +ℤ-idr}
 use lib.ListN.{length}
-use lib.Signed.{nonNeg, leZ, ltZ, pos-natAbs}
+use lib.Signed.{nonNeg, leZ, pos-natAbs}
 use lib.Dec.{T, eqb, leb, ltb, leb→le}
-use borrow.Author.Tests.{le-leb, lt-leb, lt-ltb, ne-eqb, eq-eqb, eqb-true, eqb-false, leb-false}
+use borrow.Author.Tests.{le-leb, lt-leb, ne-eqb, eq-eqb, eqb-true, eqb-false}
 use Rattle.lists.proofs.Tests.{test}
 use Rattle.maps.specs.Sums.{sumTo, when}
 use Rattle.maps.specs.Bins.{offset, votes, place}

@@ -7,7 +7,6 @@ use native.Mathlib.Omega.{arith}
 use lib.IntN.{ℤ, pos, negℤ, _+ℤ_, _-ℤ_, +ℤ-comm, +ℤ-assoc, +ℤ-negℤ-cancel, -ℤ-+ℤ-cancel}
 use lib.ListN.{length, getD, drop}
 use Rattle.maps.specs.Sums.{sumTo, when}
-use Rattle.maps.specs.Lists.{countIf}
 use Rattle.maps.specs.Words.{SameOutside}
 use Rattle.maps.proofs.Sums.{sum-cong, sum-flat, sum-zero, sum-kept}
 use Rattle.maps.proofs.Words.{outside-none}

@@ -14,7 +14,6 @@ use Rattle.consolidate.specs.Modes.{mode}
 use Rattle.consolidate.specs.Box.{within, peakOver}
 use Rattle.consolidate.specs.declared.Mode.{Mode}
 use Rattle.consolidate.specs.declared.Peak.{Peak}
-use Rattle.model.specs.Rows.{Row}
 use Rattle.gates.specs.Gates.{Thresholds, AtPeak, gates, resultAt, passing}
 use Rattle.wang_judge.specs.declared.WangQuery.{WangQuery}
 
@@ -87,8 +86,9 @@ atPeak s = record { votes = s .peak .votes; prominence = s .prominence; score = 
 abbrev pub resultOf : Float → Seen → MatchResult
 resultOf rate s = resultAt (atPeak s) (s .peak .mode) rate one
 
-unfoldable pub judgeBy : WangQuery → Row → Counts → Option MatchResult
-judgeBy q r n =
-    let rate : Float = ofBits binary32 (r .rate) in
-    let s : Seen = seenOf q (r .rmax) n in
+-- by the row's rate bits and r_max, and the counts of votes
+unfoldable pub judgeBy : WangQuery → ℕ → ℕ → Counts → Option MatchResult
+judgeBy q bits rmax n =
+    let rate : Float = ofBits binary32 bits in
+    let s : Seen = seenOf q rmax n in
     passing (gates (thresholdsOf q) rate (s .votes) (atPeak s)) (resultOf rate s)

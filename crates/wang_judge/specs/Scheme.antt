@@ -46,7 +46,7 @@ abbrev pub countsOf : List Vote → Counts
 countsOf vs p = countIf p vs
 
 unfoldable pub judge : Ask → List Hash → Row → List Vote → Option MatchResult
-judge a hs r vs = judgeBy (queryOf a hs) r (countsOf vs)
+judge a hs r vs = judgeBy (queryOf a hs) (r .rate) (r .rmax) (countsOf vs)
 
 -- "Wang 3 words (key, id, t_anchor)"; "Scratch of i64: 6 words a vote (Wang)"
 abbrev pub wang : Scheme
@@ -60,6 +60,6 @@ wang = record {
   judge = judge;
 }
 
--- settings, rate, the words of the hashes, and how many words of scratch are lent
-abbrev pub queryWith : WangMatchConfig → Float → List ℕ → ℕ → Query wang
-queryWith cfg rate hs scratch = record { ask = record { cfg = cfg; rate = rate }; words = hs; scratch = scratch }
+-- settings, rate, the set, the words of the hashes, and how many words of scratch are lent
+abbrev pub queryWith : WangMatchConfig → Float → ℕ → List ℕ → ℕ → Query wang
+queryWith cfg rate set hs scratch = record { ask = record { cfg = cfg; rate = rate }; set = set; words = hs; scratch = scratch }

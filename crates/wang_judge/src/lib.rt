@@ -143,7 +143,7 @@ pub fn judge(
     r_max: u32,
 ) -> Verdict
     requires { ⌜ Candidate (now s) a g at q «r_max» ⌝ }
-    ensures { λ r. ⌜ (r ≡ verdictOf (judgeBy q (record { rate = rate; rmax = «r_max» }) (countsIn (q .«q_max») (now (s .entry)) a g)))
+    ensures { λ r. ⌜ (r ≡ verdictOf (judgeBy q rate «r_max» (countsIn (q .«q_max») (now (s .entry)) a g)))
         × SameOutside (now (s .entry)) (now (s .exit)) at (at + 2 * g) ⌝ }
 {
     let cfg = q.cfg;

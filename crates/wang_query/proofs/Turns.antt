@@ -23,7 +23,7 @@ use Rattle.query_laws.proofs.Turns.{Judged, turn}
 use Rattle.wang_query.specs.Candidates.{reading, Limits, Spanned}
 
 pub fair : (q : WangQuery) → Fair (reading q)
-fair q r vs us e = ap (judgeBy q r) (fun-ext e)
+fair q r vs us e = ap (judgeBy q (r .rate) (r .rmax)) (fun-ext e)
 
 recording-le : (m n : ℕ) → m ≤ n → m / 2 ^ 44 ≤ n / 2 ^ 44
 recording-le m n h = omega arith
@@ -62,8 +62,8 @@ module _ (rs : List ℕ) (q : WangQuery) (s₀ s : List ℤ) (v : ℕ) (best : O
   -- a turn, by what the calls say
   pub walked-on : (s′ : List ℤ) (to : ℕ) → length s′ ≡ length s → SameOutside s s′ (2 * v) to → (id rate rmax : ℕ) (r : Verdict) (best′ : Option (ℕ × MatchResult))
       → id ≡ recordingOf (getD s i (pos 0)) → rate ≡ rowWord rs id atRate → rmax ≡ rowWord rs id atRmax
-      → r ≡ verdictOf (judgeBy q (record { rate = rate; rmax = rmax }) (countsIn (q .«q_max») s i (e - i))) → best′ ≡ trackBest best id (resultIn r) → Walked rs q s₀ s′ v best′ e
+      → r ≡ verdictOf (judgeBy q rate rmax (countsIn (q .«q_max») s i (e - i))) → best′ ≡ trackBest best id (resultIn r) → Walked rs q s₀ s′ v best′ e
   unfolding countsIn
   walked-on s′ to len S id rate rmax r best′ e1 e2 e3 e4 e5 =
       turn (reading q) rs (Spanned rs (q .«q_max»)) 4 (omega arith) (rises q) (λ z k. k .known) s₀ s v best i J h e U s′ (2 * v) to (omega arith) len S id r best′ e1
-      (e4 ∙ ap₂ (λ (a b : ℕ). verdictOf (judgeBy q (record { rate = a; rmax = b }) (countsIn (q .«q_max») s i (e - i)))) e2 e3) e5
+      (e4 ∙ ap₂ (λ (a b : ℕ). verdictOf (judgeBy q a b (countsIn (q .«q_max») s i (e - i)))) e2 e3) e5

@@ -11,6 +11,8 @@ use Rattle.matching.specs.declared.MatchResult.{MatchResult}
 use Rattle.model.specs.Calls.{Answer}
 use Rattle.model.specs.Soundness.{rowWord}
 use Rattle.model.specs.Words.{headWidth, rowWidth, atRmax}
+use Rattle.query_search.specs.Voting.{voting}
+use Rattle.query_search.specs.declared.Voters.{Voters}
 use Rattle.query_laws.specs.Candidates as of-reading
 use Rattle.wang_judge.specs.declared.WangQuery.{WangQuery}
 use Rattle.wang_judge.specs.Judge.{Vote, judgeBy}
@@ -20,25 +22,28 @@ use Rattle.wang_votes.specs.Gathered.{words, Packable}
 
 -- how the word of a vote is read, and a recording judged
 abbrev pub reading : WangQuery → of-reading.Reading Vote
-reading q = record { recordingOf = recordingOf; voteIn = voteIn (q .«q_max»); judge = λ r vs. judgeBy q r (countsOf vs) }
+reading q = record { recordingOf = recordingOf; voteIn = voteIn (q .«q_max»); judge = λ r vs. judgeBy q (r .rate) (r .rmax) (countsOf vs) }
 
 -- the best of the recordings in the references, by the words zs
 abbrev pub bestIn : WangQuery → List ℕ → List ℤ → Option (ℕ × MatchResult)
 bestIn q rs zs = of-reading.bestIn (reading q) rs zs
 
--- the postings in use; the query's hashes; the words of its votes in the order in which they are gathered
-abbrev pub postingsIn : List ℕ → List ℕ → List (List ℕ)
-postingsIn rs ps = entries 3 (getD rs 2 0) ps
+-- the postings in use, and those that vote; the query's hashes; the words of its votes in the order in which they are gathered
+abbrev pub heldIn : List ℕ → List ℕ → List (List ℕ)
+heldIn rs ps = entries 3 (getD rs 2 0) ps
+
+abbrev pub postingsIn : Voters → List ℕ → List ℕ → List (List ℕ)
+postingsIn v rs ps = voting v rs (heldIn rs ps)
 
 abbrev pub hashesIn : WangQuery → List ℕ → List (List ℕ)
 hashesIn q hs = entries 2 (q .«q_len») hs
 
-abbrev pub wordsIn : WangQuery → List ℕ → List ℕ → List ℕ → List ℤ
-wordsIn q rs ps hs = words (q .«q_max») (postingsIn rs ps) (hashesIn q hs)
+abbrev pub wordsIn : Voters → WangQuery → List ℕ → List ℕ → List ℕ → List ℤ
+wordsIn v q rs ps hs = words (q .«q_max») (postingsIn v rs ps) (hashesIn q hs)
 
 -- the answer, where the scratch has room for so many votes
-abbrev pub answerIn : WangQuery → ℕ → List ℕ → List ℕ → List ℕ → Answer
-answerIn q room rs ps hs = of-reading.answerIn (reading q) room rs (wordsIn q rs ps hs)
+abbrev pub answerIn : Voters → WangQuery → ℕ → List ℕ → List ℕ → List ℕ → Answer
+answerIn v q room rs ps hs = of-reading.answerIn (reading q) room rs (wordsIn v q rs ps hs)
 
 -- ---- what the code asks
 
@@ -66,5 +71,5 @@ Held rs e = (getD e 1 0 < getD rs 0 0) × (getD e 2 0 ≤ rowWord rs (getD e 1 0
 -- postings and query hashes whose votes can be gathered
 pub record Posted (rs ps hs : List ℕ) (q : WangQuery) : Type 0 where
   pub limits : Limits rs q
-  pub packable : Packable ps (getD rs 2 0) hs (q .«q_len») (q .«q_max»)
-  pub held : All (Held rs) (postingsIn rs ps)
+  pub packable : Packable rs ps (getD rs 2 0) hs (q .«q_len») (q .«q_max»)
+  pub held : All (Held rs) (heldIn rs ps)

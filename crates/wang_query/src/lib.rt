@@ -11,6 +11,7 @@ ghost use Rattle.wang_judge.specs.Scheme.{queryOf, wang, queryWith};
 ghost use Rattle.wang_query.specs.Candidates.{bestIn, wordsIn, answerIn, Votes, Posted};
 use query_rank::Best;
 use query_rank::Finding;
+use query_search::Voters;
 use wang_judge::WangMatchConfig;
 use wang_judge::WangQuery;
 
@@ -37,7 +38,7 @@ fn best_of(s: &mut [i64], v: usize, refs: &[u32], q: WangQuery) -> Best
     best
 }
 
-// The best candidate by the votes of the query's hashes, which are gathered and sorted in the scratch. `starts` says where the postings of
+// The best candidate by the votes of the query's hashes with the voters' postings, which are gathered and sorted in the scratch. `starts` says where the postings of
 // each hash begin, and `ends` where they end.
 fn best_candidate(
     s: &mut [i64],
@@ -47,15 +48,18 @@ fn best_candidate(
     hashes: &[u32],
     starts: &[u32],
     ends: &[u32],
+    voters: Voters,
     q: WangQuery,
 ) -> Best
-    requires { ⌜ Posted (now refs) (now posts) (now hashes) q × (p ≡ getD (now refs) 2 0) × (length (wordsIn q (now refs) (now posts) (now hashes)) ≤ 1000000)
-        × (4 * length (wordsIn q (now refs) (now posts) (now hashes)) ≤ length (now s)) × Starts (now posts) 3 p (now hashes) 2 (q .«q_len») (now starts)
+    requires { ⌜ Posted (now refs) (now posts) (now hashes) q × (p ≡ getD (now refs) 2 0) × (length (wordsIn voters q (now refs) (now posts) (now hashes)) ≤ 1000000)
+        × (4 * length (wordsIn voters q (now refs) (now posts) (now hashes)) ≤ length (now s)) × Starts (now posts) 3 p (now hashes) 2 (q .«q_len») (now starts)
         × Ends (now posts) 3 p (now hashes) 2 (q .«q_len») (now ends) × (q .«q_len» ≤ length (now starts)) × (q .«q_len» ≤ length (now ends)) ⌝ }
-    ensures { λ r. ⌜ bestSoFar r ≡ bestIn q (now (refs .entry)) (wordsIn q (now (refs .entry)) (now (posts .entry)) (now (hashes .entry))) ⌝ }
+    ensures { λ r. ⌜ bestSoFar r ≡ bestIn q (now (refs .entry)) (wordsIn voters q (now (refs .entry)) (now (posts .entry)) (now (hashes .entry))) ⌝ }
 {
     let v = wang_votes::gather(
         s,
+        refs,
+        voters,
         posts,
         p,
         hashes,
@@ -75,21 +79,36 @@ fn search_in(
     refs: &[u32],
     posts: &[u32],
     hashes: &[u32],
+    voters: Voters,
     q: WangQuery,
     starts: &mut [u32],
     ends: &mut [u32],
 ) -> Finding
     requires { ⌜ Posted (now refs) (now posts) (now hashes) q × (length (now s) / 6 ≤ 1000000) × Zeros (q .«q_len») (now starts) × (q .«q_len» ≤ length (now ends)) ⌝ }
-    ensures { λ r. ⌜ (findingAnswer r ≡ answerIn q (length (now (s .entry)) / 6) (now (refs .entry)) (now (posts .entry)) (now (hashes .entry)))
-        × (now (s .exit) ≡ scratchAfter (answerIn q (length (now (s .entry)) / 6) (now (refs .entry)) (now (posts .entry)) (now (hashes .entry))) (now (s .entry))) ⌝ }
+    ensures { λ r. ⌜ (findingAnswer r ≡ answerIn voters q (length (now (s .entry)) / 6) (now (refs .entry)) (now (posts .entry)) (now (hashes .entry)))
+        × (now (s .exit) ≡ scratchAfter (answerIn voters q (length (now (s .entry)) / 6) (now (refs .entry)) (now (posts .entry)) (now (hashes .entry))) (now (s .entry))) ⌝ }
 {
     let room = s.len() / 6;
     let p = rows::header(refs).postings;
     query_search::seek(starts, posts, 3, p, hashes, 2, q.q_len);
-    if room < query_search::meet(ends, starts, posts, 3, p, hashes, 2, q.q_len, room) {
+    if room
+        < query_search::meet(
+            ends,
+            starts,
+            refs,
+            voters,
+            posts,
+            3,
+            p,
+            hashes,
+            2,
+            q.q_len,
+            room,
+        )
+    {
         return Finding::Refused(8);
     }
-    let best = best_candidate(s, refs, posts, p, hashes, starts, ends, q);
+    let best = best_candidate(s, refs, posts, p, hashes, starts, ends, voters, q);
     maps::zero_words(s);
     query_rank::answer_of(best)
 }
@@ -101,24 +120,31 @@ const FEW: usize = 64;
 const SOME: usize = 512;
 
 // The same, with arrays of its own.
-fn search(s: &mut [i64], refs: &[u32], posts: &[u32], hashes: &[u32], q: WangQuery) -> Finding
+fn search(
+    s: &mut [i64],
+    refs: &[u32],
+    posts: &[u32],
+    hashes: &[u32],
+    voters: Voters,
+    q: WangQuery,
+) -> Finding
     requires { ⌜ Posted (now refs) (now posts) (now hashes) q × (length (now s) / 6 ≤ 1000000) ⌝ }
-    ensures { λ r. ⌜ findingAnswer r ≡ answerIn q (length (now (s .entry)) / 6) (now (refs .entry)) (now (posts .entry)) (now (hashes .entry)) ⌝ }
-    ensures { λ _. ⌜ now (s .exit) ≡ scratchAfter (answerIn q (length (now (s .entry)) / 6) (now (refs .entry)) (now (posts .entry)) (now (hashes .entry))) (now (s .entry)) ⌝ }
+    ensures { λ r. ⌜ findingAnswer r ≡ answerIn voters q (length (now (s .entry)) / 6) (now (refs .entry)) (now (posts .entry)) (now (hashes .entry)) ⌝ }
+    ensures { λ _. ⌜ now (s .exit) ≡ scratchAfter (answerIn voters q (length (now (s .entry)) / 6) (now (refs .entry)) (now (posts .entry)) (now (hashes .entry))) (now (s .entry)) ⌝ }
 {
     if q.q_len <= FEW {
         let mut starts = [0u32; 64];
         let mut ends = [0u32; 64];
-        return search_in(s, refs, posts, hashes, q, &mut starts, &mut ends);
+        return search_in(s, refs, posts, hashes, voters, q, &mut starts, &mut ends);
     }
     if q.q_len <= SOME {
         let mut starts = [0u32; 512];
         let mut ends = [0u32; 512];
-        return search_in(s, refs, posts, hashes, q, &mut starts, &mut ends);
+        return search_in(s, refs, posts, hashes, voters, q, &mut starts, &mut ends);
     }
     let mut starts = [0u32; 2048];
     let mut ends = [0u32; 2048];
-    search_in(s, refs, posts, hashes, q, &mut starts, &mut ends)
+    search_in(s, refs, posts, hashes, voters, q, &mut starts, &mut ends)
 }
 
 // What every candidate is judged with.
@@ -133,7 +159,7 @@ fn query_of(hashes: &[u32], frames_per_sec: f32, cfg: WangMatchConfig) -> WangQu
     }
 }
 
-// The best recording for a query, with its result. The store is left as it is, and of the scratch an accepted query leaves zeros.
+// The best recording of a set, 0 for all, for a query, with its result. The store is left as it is, and of the scratch an accepted query leaves zeros.
 pub fn query(
     refs: &[u32],
     posts: &[u32],
@@ -142,14 +168,15 @@ pub fn query(
     hashes: &[u32],
     frames_per_sec: f32,
     cfg: WangMatchConfig,
+    set: u32,
 ) -> Finding
     ensures { λ r. ⌜ (findingAnswer r, lent (refs .entry) (posts .entry) (stops .entry))
         ≡ runQuery wang (lent (refs .entry) (posts .entry) (stops .entry))
-        (queryWith cfg «frames_per_sec» (now (hashes .entry)) (length (now (s .entry)))) ⌝ }
+        (queryWith cfg «frames_per_sec» set (now (hashes .entry)) (length (now (s .entry)))) ⌝ }
     ensures { λ r. ⌜ now (s .exit) ≡ scratchAfter (findingAnswer r) (now (s .entry)) ⌝ }
 {
     let beyond = 65535 < cfg.offset_tolerance_frames;
-    let r = query_refusals::of_query(refs, posts, stops, 3, s.len(), 6, hashes, beyond);
+    let r = query_refusals::of_query(refs, posts, stops, 3, s.len(), 6, hashes, beyond, set);
     if r != 0 {
         return Finding::Refused(r);
     }
@@ -158,6 +185,7 @@ pub fn query(
         refs,
         posts,
         hashes,
+        Voters { set },
         query_of(hashes, frames_per_sec, cfg),
     )
 }

@@ -10,19 +10,26 @@ use lib.IntN.{ℤ, pos}
 use lib.Dec.{ltb}
 use lib.ListN.{length, getD, take, drop, set, length-append, length-drop}
 use lib.Seq.{set-out, take-suc-set, take-set-le, length-take-le, getD-take, getD-drop}
-use borrow.Author.Tests.{lt-ltb, le-ltb, ltb-false}
-use Rattle.lists.specs.Lists.{flat, sum}
+use borrow.Author.Tests.{lt-ltb, le-ltb, ltb-true, ltb-false}
+use Rattle.lists.specs.Lists.{keep, flat, sum}
 use Rattle.lists.specs.Keys.{under}
 use Rattle.lists.specs.Entries.{entries, entryAt, keyOf, keysAscend}
 use Rattle.lists.proofs.Tests.{test, and-left, yes-and}
-use Rattle.lists.proofs.Entries.{entries-take, entry-key, entry-word}
+use Rattle.lists.proofs.Entries.{entry-key, entry-word}
 use Rattle.maps.specs.Entries.{firstAt}
-use Rattle.maps.proofs.Entries.{first-splits, under-part, part-entries}
+use Rattle.maps.proofs.Entries.{first-splits, part-entries}
 use Rattle.bins.specs.Votes.{packed}
 use Rattle.query_search.specs.Starts.{met}
-use Rattle.query_search.proofs.Meeting.{under-many}
+use Rattle.query_search.proofs.Meeting.{under-many, under-entries}
+use Rattle.query_search.specs.declared.Voters.{Voters}
+use Rattle.query_search.specs.Voting.{mayVote, voting, ifVoting}
+use Rattle.query_search.proofs.Voting.{under-voting, if-yes, if-no}
+use Rattle.query_search.proofs.Counting.{few-votes, votes-all}
+use Rattle.maps.specs.Sums.{when}
+use Rattle.maps.proofs.Sums.{keep-le}
+use native.Mathlib.Numerals.{add-one}
 use Rattle.query_search.specs.Gathered.{found, wordsBy, wordsOf, wordsFrom, Ids}
-use Rattle.query_search.proofs.Walks.{put-more, firsts, id-below}
+use Rattle.query_search.proofs.Walks.{none-of, firsts, id-below}
 use Rattle.query_search.proofs.Walks as walks
 use Rattle.wang_votes.specs.Gathered.{voteWord, wordWith, pairWord, wordsOn}
 
@@ -32,13 +39,23 @@ module _ (part : List ℕ) (shift q : ℕ) where
   pub word-is : (j : ℕ) → voteWord shift q (entryAt 3 j part) ≡ packed (getD part (3 * j + 1) 0) (getD part (3 * j + 2) 0 + shift) q
   word-is j = rw (entry-word 3 j part 1 (omega arith), entry-word 3 j part 2 (omega arith)) refl
 
-  pub put-word : (s₀ s : List ℤ) (at j : ℕ) → take (at + j) s ≡ take at s₀ ++ wordsOn shift q (entries 3 j part) → at + j < length s
-      → take (at + (j + 1)) (set s (at + j) (pos (packed (getD part (3 * j + 1) 0) (getD part (3 * j + 2) 0 + shift) q))) ≡ take at s₀ ++ wordsOn shift q (entries 3 (j + 1) part)
-  put-word s₀ s at j e h =
-      let word = pos (voteWord shift q (entryAt 3 j part)) in
-      let m : at + (j + 1) ≡ suc (at + j) = omega arith in
-      subst (λ (x : ℕ). take (at + (j + 1)) (set s (at + j) (pos x)) ≡ take at s₀ ++ wordsOn shift q (entries 3 (j + 1) part)) (word-is j)
-      (rw m (put-more (wordWith shift q) 3 part (take at s₀) (take (at + j) s) (take (suc (at + j)) (set s (at + j) word)) j e (take-suc-set s (at + j) word h)))
+  -- put behind the first `at` words, where the posting votes, and where it doesn't
+  module _ (v : Voters) (rs : List ℕ) (j : ℕ) where
+    pub put-one : (s s′ : List ℤ) (at : ℕ) → mayVote v rs (getD part (3 * j + 1) 0) ≡ true → at < length s
+        → s′ ≡ set s at (pos (packed (getD part (3 * j + 1) 0) (getD part (3 * j + 2) 0 + shift) q))
+        → (at + 1 ≡ at + length (ifVoting v rs (wordWith shift q) (entryAt 3 j part))) × (take (at + 1) s′ ≡ take at s ++ ifVoting v rs (wordWith shift q) (entryAt 3 j part))
+    put-one s s′ at y h e =
+        let word = pos (packed (getD part (3 * j + 1) 0) (getD part (3 * j + 2) 0 + shift) q) in
+        let k : ifVoting v rs (wordWith shift q) (entryAt 3 j part) ≡ word ∷ [] = if-yes v rs (wordWith shift q) 3 j part (omega arith) y ∙ ap (λ (x : ℕ). pos x ∷ []) (word-is j) in
+        rw (k, e, add-one at) (refl, take-suc-set s at word h)
+
+    pub put-none : (s : List ℤ) (at : ℕ) → mayVote v rs (getD part (3 * j + 1) 0) ≡ false
+        → (at ≡ at + length (ifVoting v rs (wordWith shift q) (entryAt 3 j part))) × (take at s ≡ take at s ++ ifVoting v rs (wordWith shift q) (entryAt 3 j part))
+    put-none s at n = rw (if-no v rs (wordWith shift q) 3 j part (omega arith) n) (omega arith, sym (append-nil (take at s)))
+
+    -- there is room for one
+    pub one-room : (at n : ℕ) → mayVote v rs (getD part (3 * j + 1) 0) ≡ true → at + length (ifVoting v rs (wordWith shift q) (entryAt 3 j part)) ≤ n → at < n
+    one-room at n y h = let l = rw (if-yes v rs (wordWith shift q) 3 j part (omega arith) y) at h in omega arith
 
 -- ---- the postings from number a on, of p
 
@@ -78,47 +95,57 @@ module _ (s : List ℤ) (at : ℕ) (x : ℤ) (b : Bool) where
 
 -- ---- the postings under a key, from a to before e
 
-module _ (ps : List ℕ) (p key a e : ℕ) (fits : 3 * p ≤ length ps) (t : keysAscend ps 3 p ≡ true) (ea : a ≡ firstAt ps 3 p key) (ee : e ≡ firstAt ps 3 p (key + 1)) where
-  pub under-long : length (under keyOf key (entries 3 p ps)) ≡ e - a
-  under-long = omega (arith, under-many ps 3 p key t (omega arith) fits)
+module _ (ps : List ℕ) (p key : ℕ) (fits : 3 * p ≤ length ps) (t : keysAscend ps 3 p ≡ true) where
+  abbrev a : ℕ
+  a = firstAt ps 3 p key
+
+  abbrev e : ℕ
+  e = firstAt ps 3 p (key + 1)
 
   -- the part's words hold them
   pub part-is : entries 3 (e - a) (flat (under keyOf key (entries 3 p ps))) ≡ under keyOf key (entries 3 p ps)
-  part-is = ap (λ (n : ℕ). entries 3 n (flat (under keyOf key (entries 3 p ps)))) (sym under-long) ∙ part-entries ps 3 p key fits
+  part-is = ap (λ (n : ℕ). entries 3 n (flat (under keyOf key (entries 3 p ps)))) (sym (under-many ps 3 p key t (omega arith) fits)) ∙ part-entries ps 3 p key fits
 
-  under-entries : under keyOf key (entries 3 p ps) ≡ entries 3 (e - a) (drop (3 * a) ps)
-  under-entries =
-      let m : 3 * e - 3 * a ≡ 3 * (e - a) = omega arith in
-      sym part-is ∙ ap (λ (l : List ℕ). entries 3 (e - a) l) (under-part ps 3 p key a e (omega arith) t ea ee)
-      ∙ rw (m, entries-take 3 (e - a) (drop (3 * a) ps))
+  -- where there is one at most, its word is written in any case, and counted where it votes
+  module _ (v : Voters) (rs : List ℕ) (c : ℕ) (ec : c ≡ when (mayVote v rs (getD ps (3 * a + 1) 0)) (e - a)) (few : e - a ≤ 1) where
+    pub first-counted : c ≡ length (under keyOf key (voting v rs (entries 3 p ps)))
+    first-counted = ec ∙ sym (few-votes v rs ps 3 p key (omega arith) (3 * a) (e - a) refl few) ∙ sym (votes-all v rs ps 3 p key (omega arith) t fits)
 
-  -- where there is one at most, its word is written in any case
-  pub put-first : (shift q : ℕ) (s s′ : List ℤ) (at : ℕ) → e - a ≤ 1 → at + (e - a) ≤ length s
-      → s′ ≡ cond (ltb (3 * a) (3 * p)) (set s at (pos (voteWord shift q (entryAt 3 a ps)))) s
-      → take (at + (e - a)) s′ ≡ take at s ++ wordsOn shift q (under keyOf key (entries 3 p ps))
-  unfolding entries wordsBy flat
-  put-first shift q s s′ at few room es = go (eq-or-lt-of-le few)
-    where
-      word : ℤ
-      word = pos (voteWord shift q (entryAt 3 a ps))
+    -- the one that is counted
+    one-held : e - a ≡ 1 → mayVote v rs (getD (entryAt 3 a ps) 1 0) ≡ true → under keyOf key (voting v rs (entries 3 p ps)) ≡ entryAt 3 a ps ∷ []
+    unfolding entries voting keep
+    one-held k may = under-voting v rs key (entries 3 p ps) ∙ ap (voting v rs) (under-entries ps 3 p key t (omega arith) fits) ∙ rw (k, may) refl
 
-      before : (b : Bool) → take at (cond b (set s at word) s) ≡ take at s
-      before true = take-set-le at s at word (omega arith)
-      before false = refl
+    pub put-first : (shift q : ℕ) (s s′ : List ℤ) (at : ℕ) → at + c ≤ length s
+        → s′ ≡ cond (ltb (3 * a) (3 * p)) (set s at (pos (voteWord shift q (entryAt 3 a ps)))) s
+        → take (at + c) s′ ≡ take at s ++ wordsOn shift q (under keyOf key (voting v rs (entries 3 p ps)))
+    unfolding wordsBy flat
+    put-first shift q s s′ at room es = test (ltb 0 c) (λ y. counted (ltb-true 0 c y)) (λ n. passed-over (ltb-false 0 c n))
+      where
+        word : ℤ
+        word = pos (voteWord shift q (entryAt 3 a ps))
 
-      go : (e - a ≡ 1) ⊎ (e - a < 1) → take (at + (e - a)) s′ ≡ take at s ++ wordsOn shift q (under keyOf key (entries 3 p ps))
-      go (inl k) =
-          let m : at + (e - a) ≡ suc at = omega arith in
-          let lt = lt-ltb (3 * a) (3 * p) (omega (arith, first-splits ps 3 p (key + 1) t .within)) in
-          rw (es, lt, m, under-entries, k) (take-suc-set s at word (omega arith))
-      go (inr l) =
-          let k : e - a ≡ 0 = omega arith in
-          let m : at + (e - a) ≡ at = omega arith in
-          rw (m, under-entries, k, es) (before (ltb (3 * a) (3 * p)) ∙ sym (append-nil (take at s)))
+        before : (b : Bool) → take at (cond b (set s at word) s) ≡ take at s
+        before true = take-set-le at s at word (omega arith)
+        before false = refl
+
+        counted : 0 < c → take (at + c) s′ ≡ take at s ++ wordsOn shift q (under keyOf key (voting v rs (entries 3 p ps)))
+        counted l =
+            let le = keep-le (mayVote v rs (getD ps (3 * a + 1) 0)) (e - a) in
+            let k : e - a ≡ 1 = omega arith in
+            let m : at + c ≡ suc at = omega arith in
+            let may = test (mayVote v rs (getD ps (3 * a + 1) 0)) (λ y. y) (λ n. absurd (let z : c ≡ 0 = ec ∙ ap (λ (b : Bool). when b (e - a)) n in omega arith)) in
+            let lt = lt-ltb (3 * a) (3 * p) (omega (arith, first-splits ps 3 p (key + 1) t .within)) in
+            rw (es, lt, m, one-held k (ap (mayVote v rs) (entry-word 3 a ps 1 (omega arith)) ∙ may)) (take-suc-set s at word (omega arith))
+
+        passed-over : c ≤ 0 → take (at + c) s′ ≡ take at s ++ wordsOn shift q (under keyOf key (voting v rs (entries 3 p ps)))
+        passed-over l =
+            let m : at + c ≡ at = omega arith in
+            rw (m, none-of (under keyOf key (voting v rs (entries 3 p ps))) (omega (arith, first-counted)), es) (before (ltb (3 * a) (3 * p)) ∙ sym (append-nil (take at s)))
 
 -- ---- each posting gives one vote
 
-one-with-each : (shift q : ℕ) (l : List (List ℕ)) → length (wordsOn shift q l) ≡ length l
+pub one-with-each : (shift q : ℕ) (l : List (List ℕ)) → length (wordsOn shift q l) ≡ length l
 unfolding wordsBy flat
 one-with-each shift q [] = refl
 one-with-each shift q (e ∷ l) = ap suc (one-with-each shift q l)

@@ -8,6 +8,7 @@ use Rattle.lists.specs.Entries.{entries}
 use Rattle.bins.specs.Votes.{packed}
 use Rattle.query_search.specs.Starts.{Sought}
 use Rattle.query_search.specs.Gathered.{wordsBy, Pairing, wordsFrom, Ids}
+use Rattle.query_search.specs.Voting.{Rowed}
 
 -- the vote of posting e with the query hash at position q, whose anchor is `shift` below the largest query anchor: the place counts
 -- from the low end of the span
@@ -29,9 +30,10 @@ words top es hs = wordsFrom (pairWord top) 0 es hs
 abbrev pub wordsOn : ℕ → ℕ → List (List ℕ) → List ℤ
 wordsOn shift q es = wordsBy (wordWith shift q) es
 
--- what the gathering asks: each part of a vote has its bits
-pub record Packable (ps : List ℕ) (p : ℕ) (hs : List ℕ) (m top : ℕ) : Type 0 where
+-- what the gathering asks: each part of a vote has its bits, and each recording a row in the references rs
+pub record Packable (rs ps : List ℕ) (p : ℕ) (hs : List ℕ) (m top : ℕ) : Type 0 where
   pub walk : Sought ps 3 p hs 2 m
   pub ids : Ids (entries 3 p ps)
+  pub rowed : Rowed rs ps 3 p
   pub high : top < 2 ^ 32
   pub below : (i : ℕ) → i < m → getD hs (2 * i + 1) 0 ≤ top

@@ -23,7 +23,7 @@ abbrev μ-loop : tie.MeasureT-loop
 
 loop-holds : tie.Need-loop-holds Inv-loop μ-loop
 loop-holds c =
-    (omega arith, sym sum-none, omega arith, some-none)
+    (omega arith, sym sum-none, omega arith, some-none long)
 
 at-requires : tie.Need-at-requires Inv-loop μ-loop
 at-requires c κs = search needs
@@ -64,7 +64,7 @@ loop-again c =
       omega arith,
       omega (arith, e, f, l .inv .1, sum-more (s .args .lengths .now) (l .i) (c .before .before .before .before .loop-test .taken)),
       omega arith,
-      some-more (s .args .lengths .now) (l .i) (c .before .before .before .before .loop-test .taken) (l .inv .3) (le-ltb 8192 (getD (s .args .lengths .now) (l .i) 0) (omega (arith, e, f))),
+      some-more long (s .args .lengths .now) (l .i) (c .before .before .before .before .loop-test .taken) (l .inv .3) (le-ltb 8192 (getD (s .args .lengths .now) (l .i) 0) (omega (arith, e, f))),
     )
 
 returns-3 : tie.Need-returns-3 Inv-loop μ-loop

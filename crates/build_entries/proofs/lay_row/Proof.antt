@@ -25,7 +25,7 @@ returns c =
     let s = P .before .before .before in
     let a = s .args in
     ap (take (headWidth + rowWidth * (a .i + 1))) (c .before .before .put-entry .ensures ∙ ap (λ (l : List ℕ). entryPut l (a .i) 0) (P .put-row .ensures))
-    ∙ row-laid (a .refs .now) (a .i) (a .row .rate) (a .row .rmax) (s .pre)
+    ∙ row-laid (a .refs .now) (a .i) (a .row .rate) (a .row .rmax) (a .row .set) (s .pre)
 
 pub lay-row-spec : {M : Type 1} → statement M
 lay-row-spec = tie.close (tie.spec put-row-requires put-entry-requires same-length returns)

@@ -45,7 +45,7 @@ returns : tie.Need-returns
 returns c =
     let s = c .before .before .before in
     let a = s .args in
-    (c .row-of .ensures .0, c .row-of .ensures .1 ∙ ap (λ (l : List Hash). cond (hasRmax (a .w)) (largestAnchor l) 0) (part-hashes (a .hashes .now) (a .w) (a .start) (a .n) (omega (arith, s .pre .0)) (s .pre .1)))
+    (c .row-of .ensures .0, c .row-of .ensures .1 ∙ ap (λ (l : List Hash). cond (hasRmax (a .w)) (largestAnchor l) 0) (part-hashes (a .hashes .now) (a .w) (a .start) (a .n) (omega (arith, s .pre .0)) (s .pre .1)), c .row-of .ensures .2)
 
 pub part-row-spec : {M : Type 1} → statement M
 part-row-spec =

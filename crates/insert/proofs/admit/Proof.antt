@@ -39,7 +39,7 @@ module _ (d : tie.After-over-keys) where
 header-requires : tie.Need-header-requires
 header-requires c κs =
     let s0 = c .before .before .before .before .before in
-    admitted.head-in (s0 .args .w) (s0 .args .refs .now) (s0 .args .posts .now) (s0 .args .stops .now) (s0 .args .hashes .now) (s0 .args .limit) (s0 .args .rate) (s0 .pre)
+    admitted.head-in (s0 .args .w) (s0 .args .refs .now) (s0 .args .posts .now) (s0 .args .stops .now) (s0 .args .hashes .now) (s0 .args .limit) (s0 .args .rate) (s0 .args .set) (s0 .pre)
 
 sub-v : tie.Need-sub-v
 sub-v c = search needs
@@ -53,7 +53,7 @@ div-collect c = search needs
 collect-requires : tie.Need-collect-requires
 collect-requires c κs =
     let hd0 = c .before .before in
-    let C = admitted.collectable (s hd0 .args .w) (s hd0 .args .refs .now) (s hd0 .args .posts .now) (s hd0 .args .stops .now) (s hd0 .args .hashes .now) (s hd0 .args .limit) (s hd0 .args .rate) (s hd0 .pre) (hd0 .header .result) (hd0 .header .ensures) _ refl in
+    let C = admitted.collectable (s hd0 .args .w) (s hd0 .args .refs .now) (s hd0 .args .posts .now) (s hd0 .args .stops .now) (s hd0 .args .hashes .now) (s hd0 .args .limit) (s hd0 .args .rate) (s hd0 .args .set) (s hd0 .pre) (hd0 .header .result) (hd0 .header .ensures) _ refl in
     ((C .words-some, C .whole, C .small, C .room), (C .stopped, C .ascend))
 
 div-if1 : tie.Need-div-if1
@@ -63,7 +63,7 @@ add-if1 : tie.Need-add-if1
 add-if1 c =
     let co = c .before in
     let hd0 = hd co in
-    omega (arith, admitted.postings-sum (s hd0 .args .w) (s hd0 .args .refs .now) (s hd0 .args .posts .now) (s hd0 .args .stops .now) (s hd0 .args .hashes .now) (s hd0 .args .limit) (s hd0 .args .rate) (s hd0 .pre) (hd0 .header .result) (hd0 .header .ensures) (co .collect .result) (co .collect .ensures .0))
+    omega (arith, admitted.postings-sum (s hd0 .args .w) (s hd0 .args .refs .now) (s hd0 .args .posts .now) (s hd0 .args .stops .now) (s hd0 .args .hashes .now) (s hd0 .args .limit) (s hd0 .args .rate) (s hd0 .args .set) (s hd0 .pre) (hd0 .header .result) (hd0 .header .ensures) (co .collect .result) (co .collect .ensures .0))
 
 same-length : tie.Need-same-length
 same-length c = search needs
@@ -75,7 +75,7 @@ returns : tie.Need-returns
 returns c =
     let co = c .before .before in
     let hd0 = hd co in
-    sym (admitted.refused-six (s hd0 .args .w) (s hd0 .args .refs .now) (s hd0 .args .posts .now) (s hd0 .args .stops .now) (s hd0 .args .hashes .now) (s hd0 .args .limit) (s hd0 .args .rate) (s hd0 .pre) (hd0 .header .result) (hd0 .header .ensures) (co .collect .result) (co .collect .ensures .0) (c .if1 .taken))
+    sym (admitted.refused-six (s hd0 .args .w) (s hd0 .args .refs .now) (s hd0 .args .posts .now) (s hd0 .args .stops .now) (s hd0 .args .hashes .now) (s hd0 .args .limit) (s hd0 .args .rate) (s hd0 .args .set) (s hd0 .pre) (hd0 .header .result) (hd0 .header .ensures) (co .collect .result) (co .collect .ensures .0) (c .if1 .taken))
 
 slice-aggregate-sort-words : tie.Need-slice-aggregate-sort-words
 slice-aggregate-sort-words c = search needs
@@ -84,7 +84,7 @@ sort-words-requires : tie.Need-sort-words-requires
 sort-words-requires c κs =
     let co = c .before .before .before in
     let hd0 = hd co in
-    omega (arith, long co, admitted.few-new (s hd0 .args .w) (s hd0 .args .refs .now) (s hd0 .args .posts .now) (s hd0 .args .stops .now) (s hd0 .args .hashes .now) (s hd0 .args .limit) (s hd0 .args .rate) (s hd0 .pre) (hd0 .header .result) (hd0 .header .ensures) (co .collect .result) (co .collect .ensures .0))
+    omega (arith, long co, admitted.few-new (s hd0 .args .w) (s hd0 .args .refs .now) (s hd0 .args .posts .now) (s hd0 .args .stops .now) (s hd0 .args .hashes .now) (s hd0 .args .limit) (s hd0 .args .rate) (s hd0 .args .set) (s hd0 .pre) (hd0 .header .result) (hd0 .header .ensures) (co .collect .result) (co .collect .ensures .0))
 
 slice-aggregate-over-keys : tie.Need-slice-aggregate-over-keys
 slice-aggregate-over-keys c = search needs
@@ -98,10 +98,10 @@ over-keys-requires c κs =
     let co = col so in
     let hd0 = hd co in (
       (
-        admitted.by-key (s hd0 .args .w) (s hd0 .args .refs .now) (s hd0 .args .posts .now) (s hd0 .args .stops .now) (s hd0 .args .hashes .now) (s hd0 .args .limit) (s hd0 .args .rate) (s hd0 .pre) (hd0 .header .result) (hd0 .header .ensures) (co .collect .result) (co .collect .ensures .0) (co .collect .last .0) (so .sort-words .last .0) (co .collect .ensures .1) (so .sort-words .ensures .0) (sorted-long so) (λ t. hd0 .before .before .shared-slice-known .given t .fits),
-        omega (arith, admitted.few-new (s hd0 .args .w) (s hd0 .args .refs .now) (s hd0 .args .posts .now) (s hd0 .args .stops .now) (s hd0 .args .hashes .now) (s hd0 .args .limit) (s hd0 .args .rate) (s hd0 .pre) (hd0 .header .result) (hd0 .header .ensures) (co .collect .result) (co .collect .ensures .0)),
+        admitted.by-key (s hd0 .args .w) (s hd0 .args .refs .now) (s hd0 .args .posts .now) (s hd0 .args .stops .now) (s hd0 .args .hashes .now) (s hd0 .args .limit) (s hd0 .args .rate) (s hd0 .args .set) (s hd0 .pre) (hd0 .header .result) (hd0 .header .ensures) (co .collect .result) (co .collect .ensures .0) (co .collect .last .0) (so .sort-words .last .0) (co .collect .ensures .1) (so .sort-words .ensures .0) (sorted-long so) (λ t. hd0 .before .before .shared-slice-known .given t .fits),
+        omega (arith, admitted.few-new (s hd0 .args .w) (s hd0 .args .refs .now) (s hd0 .args .posts .now) (s hd0 .args .stops .now) (s hd0 .args .hashes .now) (s hd0 .args .limit) (s hd0 .args .rate) (s hd0 .args .set) (s hd0 .pre) (hd0 .header .result) (hd0 .header .ensures) (co .collect .result) (co .collect .ensures .0)),
       ),
-      (omega (arith, s hd0 .pre .wide), admitted.posts-fit (s hd0 .args .w) (s hd0 .args .refs .now) (s hd0 .args .posts .now) (s hd0 .args .stops .now) (s hd0 .args .hashes .now) (s hd0 .args .limit) (s hd0 .args .rate) (s hd0 .pre) (hd0 .header .result) (hd0 .header .ensures) (co .collect .result) (co .collect .ensures .0) (co .collect .last .0) (so .sort-words .last .0) (co .collect .ensures .1) (so .sort-words .ensures .0) (sorted-long so), admitted.posts-ascend (s hd0 .args .w) (s hd0 .args .refs .now) (s hd0 .args .posts .now) (s hd0 .args .stops .now) (s hd0 .args .hashes .now) (s hd0 .args .limit) (s hd0 .args .rate) (s hd0 .pre) (hd0 .header .result) (hd0 .header .ensures) (co .collect .result) (co .collect .ensures .0) (co .collect .last .0) (so .sort-words .last .0) (co .collect .ensures .1) (so .sort-words .ensures .0) (sorted-long so)),
+      (omega (arith, s hd0 .pre .wide), admitted.posts-fit (s hd0 .args .w) (s hd0 .args .refs .now) (s hd0 .args .posts .now) (s hd0 .args .stops .now) (s hd0 .args .hashes .now) (s hd0 .args .limit) (s hd0 .args .rate) (s hd0 .args .set) (s hd0 .pre) (hd0 .header .result) (hd0 .header .ensures) (co .collect .result) (co .collect .ensures .0) (co .collect .last .0) (so .sort-words .last .0) (co .collect .ensures .1) (so .sort-words .ensures .0) (sorted-long so), admitted.posts-ascend (s hd0 .args .w) (s hd0 .args .refs .now) (s hd0 .args .posts .now) (s hd0 .args .stops .now) (s hd0 .args .hashes .now) (s hd0 .args .limit) (s hd0 .args .rate) (s hd0 .args .set) (s hd0 .pre) (hd0 .header .result) (hd0 .header .ensures) (co .collect .result) (co .collect .ensures .0) (co .collect .last .0) (so .sort-words .last .0) (co .collect .ensures .1) (so .sort-words .ensures .0) (sorted-long so)),
     )
 
 add-if2 : tie.Need-add-if2
@@ -110,7 +110,7 @@ add-if2 c =
     let so = srt ov in
     let co = col so in
     let hd0 = hd co in
-    omega (arith, admitted.stopped-sum (s hd0 .args .w) (s hd0 .args .refs .now) (s hd0 .args .posts .now) (s hd0 .args .stops .now) (s hd0 .args .hashes .now) (s hd0 .args .limit) (s hd0 .args .rate) (s hd0 .pre) (hd0 .header .result) (hd0 .header .ensures) (co .collect .result) (co .collect .ensures .0) (co .collect .last .0) (so .sort-words .last .0) (co .collect .ensures .1) (so .sort-words .ensures .0) (sorted-long so) (ov .over-keys .last .0) (ov .over-keys .result) (ov .over-keys .ensures .0) (over-long ov) (ov .over-keys .ensures .1))
+    omega (arith, admitted.stopped-sum (s hd0 .args .w) (s hd0 .args .refs .now) (s hd0 .args .posts .now) (s hd0 .args .stops .now) (s hd0 .args .hashes .now) (s hd0 .args .limit) (s hd0 .args .rate) (s hd0 .args .set) (s hd0 .pre) (hd0 .header .result) (hd0 .header .ensures) (co .collect .result) (co .collect .ensures .0) (co .collect .last .0) (so .sort-words .last .0) (co .collect .ensures .1) (so .sort-words .ensures .0) (sorted-long so) (ov .over-keys .last .0) (ov .over-keys .result) (ov .over-keys .ensures .0) (over-long ov) (ov .over-keys .ensures .1))
 
 same-length-3 : tie.Need-same-length-3
 same-length-3 c = search needs
@@ -127,7 +127,7 @@ returns-2 c =
     let so = srt ov in
     let co = col so in
     let hd0 = hd co in
-    sym (admitted.refused-seven (s hd0 .args .w) (s hd0 .args .refs .now) (s hd0 .args .posts .now) (s hd0 .args .stops .now) (s hd0 .args .hashes .now) (s hd0 .args .limit) (s hd0 .args .rate) (s hd0 .pre) (hd0 .header .result) (hd0 .header .ensures) (co .collect .result) (co .collect .ensures .0) (co .collect .last .0) (so .sort-words .last .0) (co .collect .ensures .1) (so .sort-words .ensures .0) (sorted-long so) (ov .over-keys .last .0) (ov .over-keys .result) (ov .over-keys .ensures .0) (over-long ov) (ov .over-keys .ensures .1) (so .before .before .if1 .left) (c .if2 .taken))
+    sym (admitted.refused-seven (s hd0 .args .w) (s hd0 .args .refs .now) (s hd0 .args .posts .now) (s hd0 .args .stops .now) (s hd0 .args .hashes .now) (s hd0 .args .limit) (s hd0 .args .rate) (s hd0 .args .set) (s hd0 .pre) (hd0 .header .result) (hd0 .header .ensures) (co .collect .result) (co .collect .ensures .0) (co .collect .last .0) (so .sort-words .last .0) (co .collect .ensures .1) (so .sort-words .ensures .0) (sorted-long so) (ov .over-keys .last .0) (ov .over-keys .result) (ov .over-keys .ensures .0) (over-long ov) (ov .over-keys .ensures .1) (so .before .before .if1 .left) (c .if2 .taken))
 
 slice-aggregate-write-recording : tie.Need-slice-aggregate-write-recording
 slice-aggregate-write-recording c = search needs
@@ -142,7 +142,7 @@ write-recording-requires c κs =
     let so = srt ov in
     let co = col so in
     let hd0 = hd co in
-    admitted.may-write (s hd0 .args .w) (s hd0 .args .refs .now) (s hd0 .args .posts .now) (s hd0 .args .stops .now) (s hd0 .args .hashes .now) (s hd0 .args .limit) (s hd0 .args .rate) (s hd0 .pre) (hd0 .header .result) (hd0 .header .ensures) (co .collect .result) (co .collect .ensures .0) (co .collect .last .0) (so .sort-words .last .0) (co .collect .ensures .1) (so .sort-words .ensures .0) (sorted-long so) (ov .over-keys .last .0) (ov .over-keys .result) (ov .over-keys .ensures .0) (over-long ov) (ov .over-keys .ensures .1) (so .before .before .if1 .left) (el .if2 .left)
+    admitted.may-write (s hd0 .args .w) (s hd0 .args .refs .now) (s hd0 .args .posts .now) (s hd0 .args .stops .now) (s hd0 .args .hashes .now) (s hd0 .args .limit) (s hd0 .args .rate) (s hd0 .args .set) (s hd0 .pre) (hd0 .header .result) (hd0 .header .ensures) (co .collect .result) (co .collect .ensures .0) (co .collect .last .0) (so .sort-words .last .0) (co .collect .ensures .1) (so .sort-words .ensures .0) (sorted-long so) (ov .over-keys .last .0) (ov .over-keys .result) (ov .over-keys .ensures .0) (over-long ov) (ov .over-keys .ensures .1) (so .before .before .if1 .left) (el .if2 .left)
 
 same-length-6 : tie.Need-same-length-6
 same-length-6 c = search needs
@@ -162,7 +162,7 @@ returns-3 c =
     let co = col so in
     let hd0 = hd co in
     let k = wr .write-recording .ensures in
-    admitted.stores (s hd0 .args .w) (s hd0 .args .refs .now) (s hd0 .args .posts .now) (s hd0 .args .stops .now) (s hd0 .args .hashes .now) (s hd0 .args .limit) (s hd0 .args .rate) (s hd0 .pre) (hd0 .header .result) (hd0 .header .ensures) (co .collect .result) (co .collect .ensures .0) (co .collect .last .0) (so .sort-words .last .0) (co .collect .ensures .1) (so .sort-words .ensures .0) (sorted-long so) (ov .over-keys .last .0) (ov .over-keys .result) (ov .over-keys .ensures .0) (over-long ov) (ov .over-keys .ensures .1) (so .before .before .if1 .left) (el .if2 .left) _ _ _ _ (k .0) (k .1 .0) (k .1 .1 .0) (k .1 .1 .1)
+    admitted.stores (s hd0 .args .w) (s hd0 .args .refs .now) (s hd0 .args .posts .now) (s hd0 .args .stops .now) (s hd0 .args .hashes .now) (s hd0 .args .limit) (s hd0 .args .rate) (s hd0 .args .set) (s hd0 .pre) (hd0 .header .result) (hd0 .header .ensures) (co .collect .result) (co .collect .ensures .0) (co .collect .last .0) (so .sort-words .last .0) (co .collect .ensures .1) (so .sort-words .ensures .0) (sorted-long so) (ov .over-keys .last .0) (ov .over-keys .result) (ov .over-keys .ensures .0) (over-long ov) (ov .over-keys .ensures .1) (so .before .before .if1 .left) (el .if2 .left) _ _ _ _ (k .0) (k .1 .0) (k .1 .1 .0) (k .1 .1 .1)
 
 pub admit-spec : {M : Type 1} → statement M
 admit-spec =

@@ -76,8 +76,8 @@ returns c =
       id-is d,
       (
         put .put-recording .ensures ∙ recorded-all (s d .args .refs .now) (head d .header .result .rows) (getD (s d .args .refs .now) 0 0) (head d .header .result .vacant) (getD (s d .args .refs .now) 1 0)
-            (d .new-id .result) (idIn (s d .args .refs .now)) _ _ _ _ (e .place-news .result) _ (head d .header .result .stopped + s d .args .n) (getD (s d .args .refs .now) 3 0 + s d .args .n)
-            (head d .header .ensures .rows) (head d .header .ensures .vacant) (id-is d) (row .row-of .ensures .0) (row .row-of .ensures .1)
+            (d .new-id .result) (idIn (s d .args .refs .now)) _ _ _ _ _ _ (e .place-news .result) _ (head d .header .result .stopped + s d .args .n) (getD (s d .args .refs .now) 3 0 + s d .args .n)
+            (head d .header .ensures .rows) (head d .header .ensures .vacant) (id-is d) (row .row-of .ensures .0) (row .row-of .ensures .1) (row .row-of .ensures .2)
             (e .place-news .ensures .0 ∙ ap length placed) (ap (λ (k : ℕ). k + s d .args .n) (head d .header .ensures .stopped)),
         (
           e .place-news .ensures .1 ∙ ap (λ es. padded (length (s d .args .posts .now)) (flat es)) placed,

@@ -12,6 +12,7 @@ use Rattle.lists.specs.Entries.{entries}
 use Rattle.sorting.specs.Sort.{sortZ}
 use Rattle.panako_vote.specs.declared.ScaleGrid.{ScaleGrid}
 use Rattle.main_votes.proofs.Mains.{main-all}
+use Rattle.query_search.specs.Voting.{voting}
 use Rattle.query_laws.proofs.Sorted.{sorted-best}
 use Rattle.panako_vote.specs.Words.{lowest}
 use Rattle.panako_votes.specs.Gathered as votes-of
@@ -32,10 +33,10 @@ module _ (c : tie.After-gather) where
   s = c .before .before .before .before .before .before .before .before .before
 
   abbrev words : List ℤ
-  words = wordsIn (s .args .q) (s .args .refs .now) (s .args .posts .now) (s .args .hashes .now)
+  words = wordsIn (s .args .voters) (s .args .q) (s .args .refs .now) (s .args .posts .now) (s .args .hashes .now)
 
-  named : votes-of.words (s .args .g) (entries 5 (s .args .p) (s .args .posts .now)) (hashesIn (s .args .q) (s .args .hashes .now)) ≡ words
-  named = ap₂ (λ (g : ScaleGrid) (p : ℕ). votes-of.words g (entries 5 p (s .args .posts .now)) (hashesIn (s .args .q) (s .args .hashes .now))) (s .pre .2) (s .pre .1)
+  named : votes-of.words (s .args .g) (voting (s .args .voters) (s .args .refs .now) (entries 5 (s .args .p) (s .args .posts .now))) (hashesIn (s .args .q) (s .args .hashes .now)) ≡ words
+  named = ap₂ (λ (g : ScaleGrid) (p : ℕ). votes-of.words g (voting (s .args .voters) (s .args .refs .now) (entries 5 p (s .args .posts .now))) (hashesIn (s .args .q) (s .args .hashes .now))) (s .pre .2) (s .pre .1)
 
   many : c .gather .result ≡ length words
   many = c .gather .ensures .0 ∙ ap length named
@@ -68,7 +69,7 @@ module _ (m : tie.After-main-votes) where
       let a = s g .args in
       let third = g .before .before .before .before .before .before in
       main-all lowest 52 (a .q .cfg .«min_votes») (words g) (Known (a .refs .now))
-      (all-known (a .refs .now) (a .posts .now) (a .hashes .now) (a .q) (s g .pre .0) (λ i. omega (arith, third .before .shared-slice-known2 .given i)) (λ i. omega (arith, third .shared-slice-known3 .given i)))
+      (all-known (a .voters) (a .refs .now) (a .posts .now) (a .hashes .now) (a .q) (s g .pre .0) (λ i. omega (arith, third .before .shared-slice-known2 .given i)) (λ i. omega (arith, third .shared-slice-known3 .given i)))
 
 -- after the look for few bins: the votes are as they were
 module _ (f : tie.After-few-bins) where

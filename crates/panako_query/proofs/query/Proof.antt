@@ -14,7 +14,7 @@ use borrow.Author.Needs.{needs}
 use Rattle.panako_query.proofs.query.Statement.{statement}
 use Rattle.panako_query.proofs.query.Tie as tie
 
--- once the first four refusals are looked at
+-- once the refusals before 8 are looked at
 module _ (d : tie.After-of-query) where
   abbrev s : tie.Start
   s = d .before .before .before .before .before .before .before
@@ -25,7 +25,7 @@ module _ (d : tie.After-of-query) where
   abbrev ask : Ask
   ask = record { cfg = s .args .cfg; rate = s .args .frames-per-sec }
 
-  early : d .of-query .result ≡ earlyRefusal 5 12 m (length (s .args .s .now)) (s .args .hashes .now) (beyond ask)
+  early : d .of-query .result ≡ earlyRefusal 5 12 m (length (s .args .s .now)) (s .args .hashes .now) (beyond ask) (s .args .set)
   unfolding beyond
   early = rw (d .before .within-limits .ensures, d .before .before .query-of .ensures) at (d .of-query .ensures)
 
@@ -41,15 +41,15 @@ of-query-requires c κs = search needs
 returns : tie.Need-returns
 returns c =
     let d = c .before in
-    (refused-is panako (omega arith) (m d) (ask d) (s d .args .hashes .now) (s d .args .s .now) (d .of-query .result) (early d) (c .if1 .taken), refl)
+    (refused-is panako (omega arith) (m d) (ask d) (s d .args .set) (s d .args .hashes .now) (s d .args .s .now) (d .of-query .result) (early d) (c .if1 .taken), refl)
 
 search-requires : tie.Need-search-requires
 search-requires c κs =
     let d = c .before .before in
     let z = c .before .if1 .left in
     rw (d .before .before .query-of .ensures) (
-      searchable (m d) (ask d) (s d .args .hashes .now) (s d .args .s .now) (d .of-query .result) (early d) z,
-      few-votes (m d) (ask d) (s d .args .hashes .now) (s d .args .s .now) (d .of-query .result) (early d) z,
+      searchable (m d) (ask d) (s d .args .set) (s d .args .hashes .now) (s d .args .s .now) (d .of-query .result) (early d) z,
+      few-votes (m d) (ask d) (s d .args .set) (s d .args .hashes .now) (s d .args .s .now) (d .of-query .result) (early d) z,
     )
 
 same-length : tie.Need-same-length
@@ -59,7 +59,7 @@ returns-2 : tie.Need-returns-2
 returns-2 c =
     let d = c .before .before .before .before in
     let k = c .before .search .ensures in (
-      found-is (m d) (ask d) (s d .args .hashes .now) (s d .args .s .now) (d .of-query .result) (early d) (c .before .before .before .if1 .left)
+      found-is (m d) (ask d) (s d .args .set) (s d .args .hashes .now) (s d .args .s .now) (d .of-query .result) (early d) (c .before .before .before .if1 .left)
           (λ i. omega (arith, d .before .before .before .shared-slice-known4 .given i)) (λ i. omega (arith, d .before .before .before .before .before .shared-slice-known2 .given i))
           (findingAnswer (c .before .search .result)) (rw (d .before .before .query-of .ensures) at (k .0)),
       k .1 ∙ ap (λ (x : Answer). scratchAfter x (s d .args .s .now)) (sym (k .0)),

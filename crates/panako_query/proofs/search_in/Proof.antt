@@ -12,6 +12,8 @@ use Rattle.lists.specs.Entries.{entries}
 use Rattle.query_rank.specs.Answers.{bestSoFar, findingAnswer}
 use Rattle.query_laws.proofs.Answers.{too-many, all-fit, answered}
 use Rattle.panako_vote.specs.declared.ScaleGrid.{ScaleGrid}
+use Rattle.query_search.specs.Voting.{voting}
+use Rattle.query_search.specs.declared.Voters.{Voters}
 use Rattle.panako_votes.specs.Gathered.{voteCount}
 use Rattle.panako_query.specs.Candidates.{reading, wordsIn}
 use borrow.Author.Needs.{needs}
@@ -35,10 +37,10 @@ fits-requires c κs =
     let s = grid .before .before .before .before .before .before .before .before in
     let seek = c .before .before .before .before .seek in
     let e = grid .before .header .ensures .postings in
-    rw e (s .pre .0 .packable .walk, rw e at (seek .ensures), omega (arith, seek .kept .0, s .pre .2 .long), s .pre .3, omega (arith, s .pre .1))
+    rw e (s .pre .0 .packable .walk, rw e at (seek .ensures), omega (arith, seek .kept .0, s .pre .2 .long), s .pre .3, omega (arith, s .pre .1), s .pre .0 .packable .rowed)
 
-fit : (b : Bool) (r p p′ m : ℕ) (g g′ : ScaleGrid) (ps hs : List ℕ) → b ≡ leb (voteCount g (entries 5 p ps) (entries 4 m hs)) r → p ≡ p′ → g ≡ g′ → b ≡ leb (voteCount g′ (entries 5 p′ ps) (entries 4 m hs)) r
-fit b r p p′ m g g′ ps hs e ep eg = rw (ep, eg) at e
+fit : (b : Bool) (r p p′ m : ℕ) (g g′ : ScaleGrid) (v : Voters) (rs ps hs : List ℕ) → b ≡ leb (voteCount g (voting v rs (entries 5 p ps)) (entries 4 m hs)) r → p ≡ p′ → g ≡ g′ → b ≡ leb (voteCount g′ (voting v rs (entries 5 p′ ps)) (entries 4 m hs)) r
+fit b r p p′ m g g′ v rs ps hs e ep eg = rw (ep, eg) at e
 
 -- after the question whether the votes fit
 module _ (c : tie.After-fits2) where
@@ -52,10 +54,10 @@ module _ (c : tie.After-fits2) where
   room = length (s .args .s .now) / 12
 
   abbrev words : List ℤ
-  words = wordsIn (s .args .q) (s .args .refs .now) (s .args .posts .now) (s .args .hashes .now)
+  words = wordsIn (s .args .voters) (s .args .q) (s .args .refs .now) (s .args .posts .now) (s .args .hashes .now)
 
   fitting : c .fits2 .result ≡ leb (length words) room
-  fitting = fit _ _ _ _ _ _ _ (s .args .posts .now) (s .args .hashes .now) (c .fits2 .ensures .0) (grid .before .header .ensures .postings) (grid .scale-grid .ensures .0)
+  fitting = fit _ _ _ _ _ _ _ (s .args .voters) (s .args .refs .now) (s .args .posts .now) (s .args .hashes .now) (c .fits2 .ensures .0) (grid .before .header .ensures .postings) (grid .scale-grid .ensures .0)
 
 returns : tie.Need-returns
 returns c =

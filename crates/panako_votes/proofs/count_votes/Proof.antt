@@ -10,32 +10,32 @@ use Rattle.maps.specs.Entries.{firstAt}
 use Rattle.maps.proofs.Entries.{first-splits}
 use Rattle.query_search.specs.Starts.{Ends}
 use Rattle.query_search.proofs.Meeting.{ends-more}
-use Rattle.panako_votes.proofs.Walks.{before, before-all, before-none, Counting, counting-none, counting-room, counting-more, counting-all, counting-end, counting-over}
+use Rattle.panako_votes.proofs.Walks.{before, before-all, before-none, Counting, counting-none, counting-room, counting-row, counting-more, counting-all, counting-end, counting-over}
 use borrow.Author.Needs.{needs}
 use Rattle.panako_votes.proofs.count_votes.Statement.{statement}
 use Rattle.panako_votes.proofs.count_votes.Tie as tie
 
 abbrev Inv-loop : tie.InvT-loop
-Inv-loop ends posts p hashes m starts g room v₀ i k qa qc start part n j₀ v j = Counting g posts p hashes room i qa qc part n v j
+Inv-loop ends refs voters posts p hashes m starts g room v₀ i k qa qc start part n j₀ v j = Counting g voters refs posts p hashes room i qa qc part n v j
 
 abbrev μ-loop : tie.MeasureT-loop
-μ-loop ends posts p hashes m starts g room v₀ i k qa qc start part n j₀ v j = n - j
+μ-loop ends refs voters posts p hashes m starts g room v₀ i k qa qc start part n j₀ v j = n - j
 
 abbrev Inv-hashes : tie.InvT-hashes
-Inv-hashes ends₀ posts p hashes m starts g room v₀ i₀ ends v i = (v ≡ length (before g posts p hashes i)) × (v ≤ room) × (i ≤ m) × Ends posts 5 p hashes 4 i ends × (length ends ≡ length ends₀)
+Inv-hashes ends₀ refs voters posts p hashes m starts g room v₀ i₀ ends v i = (v ≡ length (before g voters refs posts p hashes i)) × (v ≤ room) × (i ≤ m) × Ends posts 5 p hashes 4 i ends × (length ends ≡ length ends₀)
 
 abbrev μ-hashes : tie.MeasureT-hashes
-μ-hashes ends₀ posts p hashes m starts g room v₀ i₀ ends v i = m - i
+μ-hashes ends₀ refs voters posts p hashes m starts g room v₀ i₀ ends v i = m - i
 
 -- the places of the outer loop and of its part
 abbrev start : tie.At-hashes Inv-loop μ-loop Inv-hashes μ-hashes → tie.Start Inv-loop μ-loop Inv-hashes μ-hashes
-start c = c .before .before .before .before .before
+start c = c .before .before .before .before .before .before
 
 abbrev outer : tie.After-part-at Inv-loop μ-loop Inv-hashes μ-hashes → tie.At-hashes Inv-loop μ-loop Inv-hashes μ-hashes
 outer c = c .before .before .before .before .before .before
 
 hashes-holds : tie.Need-hashes-holds Inv-loop μ-loop Inv-hashes μ-hashes
-hashes-holds c = let a = c .before .before .before .before .args in (sym (ap length (before-none (a .g) (a .posts .now) (a .p) (a .hashes .now))), omega arith, omega arith, record { stops = λ j l. absurd (omega arith) }, refl)
+hashes-holds c = let a = c .before .before .before .before .before .args in (sym (ap length (before-none (a .g) (a .voters) (a .refs .now) (a .posts .now) (a .p) (a .hashes .now))), omega arith, omega arith, record { stops = λ j l. absurd (omega arith) }, refl)
 
 mul-k : tie.Need-mul-k Inv-loop μ-loop Inv-hashes μ-hashes
 mul-k c = search needs
@@ -81,15 +81,17 @@ loop-holds c =
     let s = start (outer c) in
     let a = s .args in
     let l = outer c .hashes in
-    counting-none (a .g) (a .posts .now) (a .p) (a .hashes .now) (s .pre .0 .postings) (a .room) (l .i) _ _ _ _ (l .v) refl refl (c .part-at .ensures) refl (l .inv .0) (l .inv .1)
+    counting-none (a .g) (a .voters) (a .refs .now) (a .posts .now) (a .p) (a .hashes .now) (s .pre .0 .postings) (a .room) (l .i) _ _ _ _ (l .v) refl refl (c .part-at .ensures) refl (l .inv .0) (l .inv .1)
 
 pair-count-requires : tie.Need-pair-count-requires Inv-loop μ-loop Inv-hashes μ-hashes
 pair-count-requires c κs =
     let o = outer (c .before .before) in
     let s = start o in
     let a = s .args in
-    let l = c .before .loop in
-    omega (arith, counting-room (a .g) (a .posts .now) (a .p) (a .hashes .now) (s .pre .0 .postings) (a .room) (o .hashes .i) _ _ _ _ (l .v) (l .j) (l .inv))
+    let l = c .before .loop in (
+      omega (arith, counting-room (a .g) (a .voters) (a .refs .now) (a .posts .now) (a .p) (a .hashes .now) (s .pre .0 .postings) (a .room) (o .hashes .i) _ _ _ _ (l .v) (l .j) (l .inv)),
+      counting-row (a .g) (a .voters) (a .refs .now) (a .posts .now) (a .p) (a .hashes .now) (s .pre .0 .postings) (a .room) (o .hashes .i) _ _ _ _ (l .v) (l .j) (l .inv) (s .pre .5) (omega arith),
+    )
 
 add-v : tie.Need-add-v Inv-loop μ-loop Inv-hashes μ-hashes
 add-v c = omega (arith, c .pair-count .ensures .1, c .before .before .loop .inv .fits)
@@ -106,7 +108,7 @@ loop-again c =
     let s = start o in
     let a = s .args in
     let l = c .before .before .before .loop in
-    counting-more (a .g) (a .posts .now) (a .p) (a .hashes .now) (s .pre .0 .postings) (a .room) (o .hashes .i) _ _ _ _ (l .v) (l .j) (l .inv) (c .before .pair-count .result) (c .before .pair-count .ensures .0) (omega arith) (omega arith)
+    counting-more (a .g) (a .voters) (a .refs .now) (a .posts .now) (a .p) (a .hashes .now) (s .pre .0 .postings) (a .room) (o .hashes .i) _ _ _ _ (l .v) (l .j) (l .inv) (c .before .pair-count .result) (c .before .pair-count .ensures .0) (omega arith) (omega arith)
 
 -- the place behind the part, where the next key begins
 module _ (c : tie.After-loop Inv-loop μ-loop Inv-hashes μ-hashes) where
@@ -121,7 +123,7 @@ module _ (c : tie.After-loop Inv-loop μ-loop Inv-hashes μ-hashes) where
       let a = s .args in
       let l = c .before .loop in
       let begins = s .pre .1 .begins (turn .hashes .i) (c .before .before .before .before .before .before .before .hashes-test .taken) in
-      let end = counting-end (a .g) (a .posts .now) (a .p) (a .hashes .now) (s .pre .0 .postings) (a .room) (turn .hashes .i) _ _ _ _ (l .v) (l .j) (l .inv) (s .pre .0 .ascend) _ refl in
+      let end = counting-end (a .g) (a .voters) (a .refs .now) (a .posts .now) (a .p) (a .hashes .now) (s .pre .0 .postings) (a .room) (turn .hashes .i) _ _ _ _ (l .v) (l .j) (l .inv) (s .pre .0 .ascend) _ refl in
       omega (arith, begins, end)
 
   small : getD (s .args .starts .now) (turn .hashes .i) 0 + 5 * (length (c .before .before .part-at .result .now) / 5) < 2 ^ 32
@@ -154,7 +156,7 @@ hashes-again c =
     let s = start o in
     let a = s .args in
     let l = c .before .loop in
-    (counting-all (a .g) (a .posts .now) (a .p) (a .hashes .now) (s .pre .0 .postings) (a .room) (o .hashes .i) _ _ _ _ (l .v) (l .j) (l .inv) (omega (arith, l .inv .on)), l .inv .fits, omega arith, ends-more (a .posts .now) 5 (a .p) (a .hashes .now) 4 (o .hashes .i) (o .hashes .ends) _ (o .hashes .inv .3) (omega (arith, o .hashes .inv .4, s .pre .3)) (ended c), simp length-set (o .hashes .inv .4))
+    (counting-all (a .g) (a .voters) (a .refs .now) (a .posts .now) (a .p) (a .hashes .now) (s .pre .0 .postings) (a .room) (o .hashes .i) _ _ _ _ (l .v) (l .j) (l .inv) (omega (arith, l .inv .on)), l .inv .fits, omega arith, ends-more (a .posts .now) 5 (a .p) (a .hashes .now) 4 (o .hashes .i) (o .hashes .ends) _ (o .hashes .inv .3) (omega (arith, o .hashes .inv .4, s .pre .3)) (ended c), simp length-set (o .hashes .inv .4))
 
 same-length : tie.Need-same-length Inv-loop μ-loop Inv-hashes μ-hashes
 same-length c = c .before .hashes .inv .4
@@ -165,7 +167,7 @@ returns c =
     let l = c .before .hashes in
     let e : l .i ≡ a .m = omega arith in
     let q = rw e at (l .inv .0) in
-    (omega (arith, q, ap length (before-all (a .g) (a .posts .now) (a .p) (a .hashes .now) (a .m))), λ _. rw e at (l .inv .3))
+    (omega (arith, q, ap length (before-all (a .g) (a .voters) (a .refs .now) (a .posts .now) (a .p) (a .hashes .now) (a .m))), λ _. rw e at (l .inv .3))
 
 same-length-2 : tie.Need-same-length-2 Inv-loop μ-loop Inv-hashes μ-hashes
 same-length-2 c = outer (c .before .before .before .before) .hashes .inv .4
@@ -176,8 +178,8 @@ returns-2 c =
     let s = start o in
     let a = s .args in
     let l = c .before .before .before .loop in
-    let k = counting-over (a .g) (a .posts .now) (a .p) (a .hashes .now) (s .pre .0 .postings) (a .room) (o .hashes .i) _ _ _ _ (l .v) (l .j) (l .inv) (c .before .pair-count .result) (c .before .pair-count .ensures .0) (omega arith) (a .m) (c .before .before .before .before .before .before .before .before .before .hashes-test .taken) in
-    (omega (arith, k, ap length (before-all (a .g) (a .posts .now) (a .p) (a .hashes .now) (a .m)), c .before .pair-count .ensures .1, l .inv .fits), λ h. absurd (omega (arith, c .if1 .taken)))
+    let k = counting-over (a .g) (a .voters) (a .refs .now) (a .posts .now) (a .p) (a .hashes .now) (s .pre .0 .postings) (a .room) (o .hashes .i) _ _ _ _ (l .v) (l .j) (l .inv) (c .before .pair-count .result) (c .before .pair-count .ensures .0) (omega arith) (a .m) (c .before .before .before .before .before .before .before .before .before .hashes-test .taken) in
+    (omega (arith, k, ap length (before-all (a .g) (a .voters) (a .refs .now) (a .posts .now) (a .p) (a .hashes .now) (a .m)), c .before .pair-count .ensures .1, l .inv .fits), λ h. absurd (omega (arith, c .if1 .taken)))
 
 pub count-votes-spec : {M : Type 1} → statement M
 count-votes-spec =

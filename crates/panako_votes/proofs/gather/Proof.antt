@@ -10,7 +10,7 @@ list-met-requires c κs = search needs
 gather-listed-requires : tie.Need-gather-listed-requires
 gather-listed-requires c κs =
     let listed = c .before .before .before .before in
-    let s = listed .before .before .before .before .before .before .before in
+    let s = listed .before .before .before .before .before .before .before .before in
     (s .pre .0, s .pre .1, s .pre .2, s .pre .3, s .pre .4, listed .list-met .ensures, omega (arith, listed .list-met .kept .0, s .pre .5), s .pre .6)
 
 same-length : tie.Need-same-length

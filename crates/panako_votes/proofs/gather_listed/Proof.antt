@@ -10,14 +10,14 @@ use Rattle.panako_votes.proofs.gather_listed.Statement.{statement}
 use Rattle.panako_votes.proofs.gather_listed.Tie as tie
 
 abbrev Inv-loop : tie.InvT-loop
-Inv-loop s₀ posts p hashes m starts ends which k g v₀ j₀ s v j = (j ≤ k) × Walked g posts p hashes m starts ends (take v s) v j × (length s ≡ length s₀)
+Inv-loop s₀ refs voters posts p hashes m starts ends which k g v₀ j₀ s v j = (j ≤ k) × Walked g voters refs posts p hashes m starts ends (take v s) v j × (length s ≡ length s₀)
 
 abbrev μ-loop : tie.MeasureT-loop
-μ-loop s₀ posts p hashes m starts ends which k g v₀ j₀ s v j = k - j
+μ-loop s₀ refs voters posts p hashes m starts ends which k g v₀ j₀ s v j = k - j
 
 -- the places of the loop
 abbrev start : tie.At-loop Inv-loop μ-loop → tie.Start Inv-loop μ-loop
-start c = c .before .before .before .before .before .before
+start c = c .before .before .before .before .before .before .before
 
 -- a turn
 module _ (c : tie.In-loop Inv-loop μ-loop) where
@@ -34,7 +34,7 @@ module _ (c : tie.In-loop Inv-loop μ-loop) where
   place = start l .pre .5 .place (l .loop .j) on
 
 loop-holds : tie.Need-loop-holds Inv-loop μ-loop
-loop-holds c = let a = c .before .before .before .before .before .args in (omega arith, walked-none (a .g) (a .posts .now) (a .p) (a .hashes .now) (a .m) (a .starts .now) (a .ends .now) (take 0 (a .s .now)) refl, refl)
+loop-holds c = let a = c .before .before .before .before .before .before .args in (omega arith, walked-none (a .g) (a .voters) (a .refs .now) (a .posts .now) (a .p) (a .hashes .now) (a .m) (a .starts .now) (a .ends .now) (take 0 (a .s .now)) refl, refl)
 
 mul-i : tie.Need-mul-i Inv-loop μ-loop
 mul-i c = let f = few c in search needs
@@ -96,7 +96,8 @@ gather-key-requires c κs =
       s .pre .2 .stops (getD (a .which .now) (o .loop .j) 0) (place k),
       s .pre .0 .ids,
       s .pre .0 .grid,
-      omega (arith, walked-room (a .g) (a .posts .now) (a .p) (a .hashes .now) (a .m) (a .starts .now) (a .ends .now) (s .pre .0 .walk) (s .pre .1) (s .pre .2) (a .which .now) (a .k) (s .pre .5) (take (o .loop .v) (o .loop .s)) (o .loop .v) (o .loop .j) (o .loop .inv .1) (on k), ap length (before-all (a .g) (a .posts .now) (a .p) (a .hashes .now) (a .m)), s .pre .7, o .loop .inv .2),
+      omega (arith, walked-room (a .g) (a .voters) (a .refs .now) (a .posts .now) (a .p) (a .hashes .now) (a .m) (a .starts .now) (a .ends .now) (s .pre .0 .walk) (s .pre .1) (s .pre .2) (a .which .now) (a .k) (s .pre .5) (take (o .loop .v) (o .loop .s)) (o .loop .v) (o .loop .j) (o .loop .inv .1) (on k), ap length (before-all (a .g) (a .voters) (a .refs .now) (a .posts .now) (a .p) (a .hashes .now) (a .m)), s .pre .7, o .loop .inv .2),
+      s .pre .0 .rowed,
     )
 
 add-j : tie.Need-add-j Inv-loop μ-loop
@@ -112,7 +113,7 @@ loop-again c =
     let o = l k in
     let s = start o in
     let a = s .args in
-    (omega arith, walked-more (a .g) (a .posts .now) (a .p) (a .hashes .now) (a .m) (a .starts .now) (a .ends .now) (s .pre .0 .walk) (s .pre .1) (s .pre .2) (a .which .now) (a .k) (s .pre .5) (take (o .loop .v) (o .loop .s)) (o .loop .v) (o .loop .j) (o .loop .inv .1) (on k) _ _ (call .ensures .0) (call .ensures .1), call .kept .0 ∙ o .loop .inv .2)
+    (omega arith, walked-more (a .g) (a .voters) (a .refs .now) (a .posts .now) (a .p) (a .hashes .now) (a .m) (a .starts .now) (a .ends .now) (s .pre .0 .walk) (s .pre .1) (s .pre .2) (a .which .now) (a .k) (s .pre .5) (take (o .loop .v) (o .loop .s)) (o .loop .v) (o .loop .j) (o .loop .inv .1) (on k) _ _ (call .ensures .0) (call .ensures .1), call .kept .0 ∙ o .loop .inv .2)
 
 same-length : tie.Need-same-length Inv-loop μ-loop
 same-length c = c .before .loop .inv .2
@@ -123,7 +124,7 @@ returns c =
     let s = start o in
     let a = s .args in
     let w = o .loop .inv .1 in
-    let all = walked-all (a .g) (a .posts .now) (a .p) (a .hashes .now) (a .m) (a .starts .now) (a .ends .now) (s .pre .0 .walk) (s .pre .1) (s .pre .2) (a .which .now) (a .k) (s .pre .5) (take (o .loop .v) (o .loop .s)) (o .loop .v) (o .loop .j) w (omega (arith, c .loop-test .left)) ∙ before-all (a .g) (a .posts .now) (a .p) (a .hashes .now) (a .m) in
+    let all = walked-all (a .g) (a .voters) (a .refs .now) (a .posts .now) (a .p) (a .hashes .now) (a .m) (a .starts .now) (a .ends .now) (s .pre .0 .walk) (s .pre .1) (s .pre .2) (a .which .now) (a .k) (s .pre .5) (take (o .loop .v) (o .loop .s)) (o .loop .v) (o .loop .j) w (omega (arith, c .loop-test .left)) ∙ before-all (a .g) (a .voters) (a .refs .now) (a .posts .now) (a .p) (a .hashes .now) (a .m) in
     (w .many ∙ ap length all, w .put ∙ all)
 
 pub gather-listed-spec : {M : Type 1} → statement M

@@ -1,9 +1,7 @@
 -- `panako_votes::pair_count` meets its contract. Assumes nothing.
 use mathlib.Core.Path.{sym, _∙_}
-use Prim.Native.Nat.{_+_, _*_}
 use native.Mathlib.Omega.{arith}
-use lib.ListN.{getD}
-use Rattle.panako_votes.proofs.Pairs.{one-vote, no-vote, voteOfPair, pair-is}
+use Rattle.panako_votes.proofs.Pairs.{count-one, count-none}
 use borrow.Author.Needs.{needs}
 use Rattle.panako_votes.proofs.pair_count.Statement.{statement}
 use Rattle.panako_votes.proofs.pair_count.Tie as tie
@@ -32,15 +30,20 @@ shared-slice-read-has-vote-2 c = search needs
 has-vote-requires : tie.Need-has-vote-requires
 has-vote-requires c κs = search needs
 
+votes-at-requires : tie.Need-votes-at-requires
+votes-at-requires c κs = let s = c .before .before .before .before .before .before in (omega (arith, s .pre .0), s .pre .1)
+
 returns : tie.Need-returns
 returns c =
-    let a = c .before .before .before .before .before .args in
-    rw (pair-is (a .g) (a .qa) (a .qc) (a .part .now) (a .j)) (one-vote (getD (a .part .now) (5 * a .j + 1) 0) (voteOfPair (a .g) (a .qa) (a .qc) (a .part .now) (a .j)) (sym (c .before .has-vote .ensures) ∙ c .if1 .taken), omega arith)
+    let k = c .before .before in
+    let a = k .before .before .before .before .before .args in
+    (count-one (a .voters) (a .refs .now) (a .g) (a .qa) (a .qc) (a .part .now) (a .j) (c .votes-at .result) (sym (k .has-vote .ensures) ∙ c .before .if1 .taken) (c .votes-at .ensures .0), c .votes-at .ensures .1)
 
 returns-2 : tie.Need-returns-2
 returns-2 c =
-    let a = c .before .before .before .before .before .args in
-    rw (pair-is (a .g) (a .qa) (a .qc) (a .part .now) (a .j)) (no-vote (getD (a .part .now) (5 * a .j + 1) 0) (voteOfPair (a .g) (a .qa) (a .qc) (a .part .now) (a .j)) (sym (c .before .has-vote .ensures) ∙ c .if1 .left), omega arith)
+    let k = c .before in
+    let a = k .before .before .before .before .before .args in
+    (count-none (a .voters) (a .refs .now) (a .g) (a .qa) (a .qc) (a .part .now) (a .j) (sym (k .has-vote .ensures) ∙ c .if1 .left), omega arith)
 
 pub pair-count-spec : {M : Type 1} → statement M
 pair-count-spec =
@@ -54,5 +57,6 @@ pair-count-spec =
     mul-has-vote-2
     shared-slice-read-has-vote-2
     has-vote-requires
+    votes-at-requires
     returns
     returns-2)

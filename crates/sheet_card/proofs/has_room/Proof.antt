@@ -1,6 +1,5 @@
 -- `sheet_card::has_room` meets its contract. Assumes nothing.
 use Rattle.sheet_card.proofs.Held.{room-is}
-use denote.Ref.{now}
 use borrow.Author.Needs.{needs}
 use Rattle.sheet_card.proofs.has_room.Statement.{statement}
 use Rattle.sheet_card.proofs.has_room.Tie as tie

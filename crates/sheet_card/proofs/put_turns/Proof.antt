@@ -2,15 +2,15 @@
 use Rattle.sheet_card.proofs.Held.{tail-all, Printing, printing-none, printing-counts, printing-turn, printing-end, turn-inside, turn-room}
 use Rattle.sheet_card.proofs.Turns.{left, Next, next-turn, below-limit}
 use Rattle.sheet_card.specs.declared.Progress.{Progress}
-use Rattle.sheet_card.specs.Turns.{Outcome, turnOf, goesOn}
+use Rattle.sheet_card.specs.Turns.{goesOn}
 use Rattle.sheet_kinds.specs.Kinds.{zeroScratch}
 use Rattle.model.specs.Words.{Words}
-use lib.ListN.{length, take, drop}
-use Prim.Native.Nat.{ℕ, _-_, _≤_}
+use lib.ListN.{length}
+use Prim.Native.Nat.{ℕ, _≤_}
 use denote.Ref.{now}
 use mathlib.Core.Bool.{true}
 use mathlib.Core.List.{List}
-use mathlib.Core.Path.{_≡_, refl, sym, ap, _∙_, subst}
+use mathlib.Core.Path.{_≡_, refl, sym, _∙_}
 use borrow.Author.Needs.{needs}
 use Rattle.sheet_card.proofs.put_turns.Statement.{statement}
 use Rattle.sheet_card.proofs.put_turns.Tie as tie

@@ -1,7 +1,6 @@
 -- `sheet_card::sheet_of` meets its contract. Assumes nothing.
 use Rattle.sheet_card.proofs.Held.{first-byte, header-room, start-room, start-going, sheet-put, no-room}
 use Rattle.sheet_card.specs.Held.{hasRoom}
-use Rattle.model.specs.Words.{Words}
 use Prim.Native.Nat.{ℕ}
 use lib.Seq.{length-take-le}
 use borrow.Author.Tests.{not-true, not-false}
@@ -10,7 +9,7 @@ use native.Mathlib.Omega.{arith}
 use denote.Ref.{now}
 use mathlib.Core.Bool.{true}
 use mathlib.Core.List.{List}
-use mathlib.Core.Path.{_≡_, refl, sym, ap, _∙_}
+use mathlib.Core.Path.{_≡_, refl, sym, _∙_}
 use borrow.Author.Needs.{needs}
 use Rattle.sheet_card.proofs.sheet_of.Statement.{statement}
 use Rattle.sheet_card.proofs.sheet_of.Tie as tie

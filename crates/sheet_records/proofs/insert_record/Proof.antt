@@ -3,6 +3,7 @@ use Rattle.sheet_records.proofs.Steps.{stepped-by}
 use Rattle.lists.proofs.Entries.{rest-all}
 use Rattle.insert.specs.Insert.{insertionAnswer}
 use Rattle.model.specs.Calls.{insert}
+use Rattle.sheet_kinds.specs.Kinds.{storedSet}
 use Rattle.wang_judge.specs.Scheme.{wang}
 use Rattle.soundness.specs.Scan.{lent}
 use Rattle.model.specs.Run.{run}
@@ -55,7 +56,7 @@ returns c =
     let k = c .before .before .before .before .before .before .before .before .before .before .insert in
     let p = c .before .before .put-insertion .ensures in
     stepped-by f (insertionAnswer (k .result)) (p .0 (getD f 0 0)) (p .1)
-    (k .ensures ∙ ap (λ (h : List ℕ). run wang (lent (a .refs) (a .postings) (a .stopped)) (insert (getD f 0 0) (getD f 1 0) h)) (rest-all f 2))
+    (k .ensures ∙ ap (λ (h : List ℕ). run wang (lent (a .refs) (a .postings) (a .stopped)) (insert (getD f 0 0) (getD f 1 0) storedSet h)) (rest-all f 2))
 
 pub insert-record-spec : {M : Type 1} → statement M
 insert-record-spec =

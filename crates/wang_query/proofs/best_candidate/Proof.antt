@@ -26,7 +26,7 @@ gather-requires c κs =
       rw (s .pre .1) at (s .pre .5),
       s .pre .6,
       s .pre .7,
-      omega (arith, s .pre .3, gathered-many (a .q) (a .refs .now) (a .posts .now) (a .hashes .now)),
+      omega (arith, s .pre .3, gathered-many (a .voters) (a .q) (a .refs .now) (a .posts .now) (a .hashes .now)),
     )
 
 -- after the gathering
@@ -35,10 +35,10 @@ module _ (c : tie.After-gather) where
   s = c .before .before .before .before .before .before .before .before
 
   abbrev words : List ℤ
-  words = wordsIn (s .args .q) (s .args .refs .now) (s .args .posts .now) (s .args .hashes .now)
+  words = wordsIn (s .args .voters) (s .args .q) (s .args .refs .now) (s .args .posts .now) (s .args .hashes .now)
 
   many : c .gather .result ≡ length words
-  many = rw (s .pre .1) at (c .gather .ensures .0) ∙ gathered-many (s .args .q) (s .args .refs .now) (s .args .posts .now) (s .args .hashes .now)
+  many = rw (s .pre .1) at (c .gather .ensures .0) ∙ gathered-many (s .args .voters) (s .args .q) (s .args .refs .now) (s .args .posts .now) (s .args .hashes .now)
 
   gathered : take (c .gather .result) (c .gather .last .0) ≡ words
   gathered = rw (c .before .wide .ensures .0, s .pre .1) at (c .gather .ensures .1)
@@ -53,7 +53,7 @@ best-of-requires c κs =
     let t = c .before .before in
     let g = t .before .before .before in
     let o = s g in
-    sorted-votes (o .args .refs .now) (o .args .posts .now) (o .args .hashes .now) (o .args .q) (o .pre .0) (λ i. omega (arith, g .before .before .before .before .before .before .shared-slice-known2 .given i))
+    sorted-votes (o .args .voters) (o .args .refs .now) (o .args .posts .now) (o .args .hashes .now) (o .args .q) (o .pre .0) (λ i. omega (arith, g .before .before .before .before .before .before .shared-slice-known2 .given i))
     (t .sort-words .last .0) (g .gather .result) (many g) (t .sort-words .ensures .0 ∙ ap sortZ (gathered g)) (omega (arith, many g, o .pre .2)) (omega (arith, many g, t .sort-words .kept .0, g .gather .kept .0, o .pre .3))
 
 same-length : tie.Need-same-length

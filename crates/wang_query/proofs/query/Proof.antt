@@ -15,7 +15,7 @@ use borrow.Author.Needs.{needs}
 use Rattle.wang_query.proofs.query.Statement.{statement}
 use Rattle.wang_query.proofs.query.Tie as tie
 
--- once the first four refusals are looked at
+-- once the refusals before 8 are looked at
 module _ (d : tie.After-of-query) where
   abbrev s : tie.Start
   s = d .before .before .before .before .before .before
@@ -26,7 +26,7 @@ module _ (d : tie.After-of-query) where
   abbrev ask : Ask
   ask = record { cfg = s .args .cfg; rate = s .args .frames-per-sec }
 
-  early : d .of-query .result ≡ earlyRefusal 3 6 m (length (s .args .s .now)) (s .args .hashes .now) (beyond (s .args .cfg))
+  early : d .of-query .result ≡ earlyRefusal 3 6 m (length (s .args .s .now)) (s .args .hashes .now) (beyond (s .args .cfg)) (s .args .set)
   unfolding beyond
   early = d .of-query .ensures
 
@@ -39,7 +39,7 @@ of-query-requires c κs = search needs
 returns : tie.Need-returns
 returns c =
     let d = c .before in
-    (refused-is wang (omega arith) (m d) (ask d) (s d .args .hashes .now) (s d .args .s .now) (d .of-query .result) (early d) (c .if1 .taken), refl)
+    (refused-is wang (omega arith) (m d) (ask d) (s d .args .set) (s d .args .hashes .now) (s d .args .s .now) (d .of-query .result) (early d) (c .if1 .taken), refl)
 
 query-of-requires : tie.Need-query-of-requires
 query-of-requires c κs = search needs
@@ -49,8 +49,8 @@ search-requires c κs =
     let d = c .before .before .before in
     let z = c .before .before .if1 .left in
     rw (c .query-of .ensures) (
-      searchable (m d) (ask d) (s d .args .hashes .now) (s d .args .s .now) (d .of-query .result) (early d) z (bits d),
-      few-votes (m d) (ask d) (s d .args .hashes .now) (s d .args .s .now) (d .of-query .result) (early d) z (bits d),
+      searchable (m d) (ask d) (s d .args .set) (s d .args .hashes .now) (s d .args .s .now) (d .of-query .result) (early d) z (bits d),
+      few-votes (m d) (ask d) (s d .args .set) (s d .args .hashes .now) (s d .args .s .now) (d .of-query .result) (early d) z (bits d),
     )
 
 same-length : tie.Need-same-length
@@ -60,7 +60,7 @@ returns-2 : tie.Need-returns-2
 returns-2 c =
     let d = c .before .before .before .before .before in
     let k = c .before .search .ensures in (
-      found-is (m d) (ask d) (s d .args .hashes .now) (s d .args .s .now) (d .of-query .result) (early d) (c .before .before .before .before .if1 .left) (bits d)
+      found-is (m d) (ask d) (s d .args .set) (s d .args .hashes .now) (s d .args .s .now) (d .of-query .result) (early d) (c .before .before .before .before .if1 .left) (bits d)
           (λ i. omega (arith, d .before .before .before .before .shared-slice-known2 .given i)) (findingAnswer (c .before .search .result)) (rw (c .before .before .query-of .ensures) at (k .0)),
       k .1 ∙ ap (λ (x : Answer). scratchAfter x (s d .args .s .now)) (sym (k .0)),
     )

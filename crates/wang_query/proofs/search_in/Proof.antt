@@ -36,7 +36,7 @@ meet-requires : tie.Need-meet-requires
 meet-requires c κs =
     let k = c .before .before .before .before in
     let o = s k in
-    (rw (head k .header .ensures .postings) (o .pre .0 .packable .walk), k .seek .ensures, long k, o .pre .3, o .pre .1)
+    (rw (head k .header .ensures .postings) (o .pre .0 .packable .walk), k .seek .ensures, long k, o .pre .3, o .pre .1, rw (head k .header .ensures .postings) (o .pre .0 .packable .rowed))
 
 -- after the counting
 module _ (c : tie.After-meet) where
@@ -47,10 +47,10 @@ module _ (c : tie.After-meet) where
   o = s sought
 
   abbrev words : List ℤ
-  words = wordsIn (o .args .q) (o .args .refs .now) (o .args .posts .now) (o .args .hashes .now)
+  words = wordsIn (o .args .voters) (o .args .q) (o .args .refs .now) (o .args .posts .now) (o .args .hashes .now)
 
   counted : c .meet .result ≡ min (length (o .args .s .now) / 6 + 1) (length words)
-  counted = counted-all (o .args .q) (o .args .refs .now) (o .args .posts .now) (o .args .hashes .now) (length (o .args .s .now) / 6) _ (rw (head sought .header .ensures .postings) at (c .meet .ensures .0))
+  counted = counted-all (o .args .voters) (o .args .q) (o .args .refs .now) (o .args .posts .now) (o .args .hashes .now) (length (o .args .s .now) / 6) _ (rw (head sought .header .ensures .postings) at (c .meet .ensures .0))
 
 same-length : tie.Need-same-length
 same-length c = search needs

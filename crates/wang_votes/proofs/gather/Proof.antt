@@ -9,6 +9,7 @@ use Rattle.lists.specs.Keys.{under}
 use Rattle.lists.specs.Entries.{entries, keyOf}
 use Rattle.query_search.proofs.Walks.{firsts, firsts-all, firsts-none}
 use Rattle.query_search.specs.Starts.{met}
+use Rattle.query_search.specs.Voting.{voting}
 use Rattle.query_search.proofs.Meeting.{met-none, met-more, met-longer}
 use Rattle.wang_votes.specs.Gathered.{pairWord}
 use Rattle.wang_votes.proofs.Walks.{put-hash}
@@ -16,12 +17,12 @@ use Rattle.wang_votes.proofs.gather.Statement.{statement}
 use Rattle.wang_votes.proofs.gather.Tie as tie
 
 abbrev Inv-loop : tie.InvT-loop
-Inv-loop s₀ posts p hashes m starts ends top v₀ i₀ s v i =
-    (i ≤ m) × (v ≡ met (entries 3 p posts) (entries 2 i hashes)) × (take v s ≡ firsts (pairWord top) (entries 3 p posts) 2 hashes i)
+Inv-loop s₀ refs voters posts p hashes m starts ends top v₀ i₀ s v i =
+    (i ≤ m) × (v ≡ met (voting voters refs (entries 3 p posts)) (entries 2 i hashes)) × (take v s ≡ firsts (pairWord top) (voting voters refs (entries 3 p posts)) 2 hashes i)
     × (length s ≡ length s₀)
 
 abbrev μ-loop : tie.MeasureT-loop
-μ-loop s₀ posts p hashes m starts ends top v₀ i₀ s v i = m - i
+μ-loop s₀ refs voters posts p hashes m starts ends top v₀ i₀ s v i = m - i
 
 loop-holds : tie.Need-loop-holds Inv-loop μ-loop
 loop-holds c = (omega arith, sym (met-none _ _ _), sym (firsts-none (pairWord _) _ 2 _), refl)
@@ -62,10 +63,10 @@ shared-slice-read-gather-key-2 c = search needs
 -- a turn of the loop
 module _ (c : tie.At-loop Inv-loop μ-loop) where
   abbrev s : tie.Start Inv-loop μ-loop
-  s = c .before .before .before .before .before
+  s = c .before .before .before .before .before .before
 
   abbrev es : List (List ℕ)
-  es = entries 3 (s .args .p) (s .args .posts .now)
+  es = voting (s .args .voters) (s .args .refs .now) (entries 3 (s .args .p) (s .args .posts .now))
 
   more : met es (entries 2 (c .loop .i + 1) (s .args .hashes .now)) ≡ met es (entries 2 (c .loop .i) (s .args .hashes .now)) + length (under keyOf (getD (s .args .hashes .now) (2 * c .loop .i) 0) es)
   more = met-more es 2 (s .args .hashes .now) (omega arith) (c .loop .i)
@@ -90,6 +91,7 @@ gather-key-requires c κs =
       omega (arith, more l, b),
       omega (arith, o .pre .0 .high),
       omega (arith, o .pre .0 .walk .few),
+      o .pre .0 .rowed,
     )
 
 add-i : tie.Need-add-i Inv-loop μ-loop
@@ -118,7 +120,7 @@ returns c =
     let l = c .before .loop in
     let a = s (c .before) .args in
     let e : l .i ≡ a .m = omega arith in
-    (rw e at (l .inv .1), rw e at (l .inv .2) ∙ firsts-all (pairWord (a .top)) (entries 3 (a .p) (a .posts .now)) 2 (a .hashes .now) (a .m))
+    (rw e at (l .inv .1), rw e at (l .inv .2) ∙ firsts-all (pairWord (a .top)) (es (c .before)) 2 (a .hashes .now) (a .m))
 
 pub gather-spec : {M : Type 1} → statement M
 gather-spec =
