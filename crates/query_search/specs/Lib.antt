@@ -1,4 +1,5 @@
--- Where the postings of each query hash begin and end; whose postings vote; the words that are gathered with them.
+-- Where the postings of each query hash begin and end; whose postings vote, with examples; the words that are gathered with them.
 pub mod Starts
 pub mod Voting
+pub mod Examples
 pub mod Gathered
