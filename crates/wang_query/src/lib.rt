@@ -91,21 +91,20 @@ fn search_in(
     let room = s.len() / 6;
     let p = rows::header(refs).postings;
     query_search::seek(starts, posts, 3, p, hashes, 2, q.q_len);
-    if room
-        < query_search::meet(
-            ends,
-            starts,
-            refs,
-            voters,
-            posts,
-            3,
-            p,
-            hashes,
-            2,
-            q.q_len,
-            room,
-        )
-    {
+    let met = query_search::meet(
+        ends,
+        starts,
+        refs,
+        voters,
+        posts,
+        3,
+        p,
+        hashes,
+        2,
+        q.q_len,
+        room,
+    );
+    if room < met {
         return Finding::Refused(8);
     }
     let best = best_candidate(s, refs, posts, p, hashes, starts, ends, voters, q);
