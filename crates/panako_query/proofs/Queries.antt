@@ -58,10 +58,9 @@ module _ (m : Words) (a : Ask) (set : ℕ) (hs : List ℕ) (s : List ℤ) (r : �
       packable = record {
         walk = sound.sought 5 (omega arith) m (P .is-listed) (P .is-sound) (omega arith) hs (P .formed);
         ids = all-imp Live (λ x. getD x 1 0 < 2 ^ 12) (λ x h. omega (arith, h .0, many)) es live;
-        rowed = record { wide = omega arith; ids = known; rows = sound.rows-there 5 (omega arith) m (P .is-listed) (P .is-sound) };
+        rowed = record { wide = omega arith; ids = all-imp Live (λ x. getD x 1 0 < getD (m .references) 0 0) (λ x h. h .0) es live; rows = sound.rows-there 5 (omega arith) m (P .is-listed) (P .is-sound) };
         grid = grid;
       };
-      held = known;
     }
       where
         es : List (List ℕ)
@@ -72,9 +71,6 @@ module _ (m : Words) (a : Ask) (set : ℕ) (hs : List ℕ) (s : List ℤ) (r : �
 
         live : All Live es
         live = sound.live-entries 5 (omega arith) m (P .is-listed) (P .is-sound)
-
-        known : All (λ x. getD x 1 0 < getD (m .references) 0 0) es
-        known = all-imp Live (λ x. getD x 1 0 < getD (m .references) 0 0) (λ x h. h .0) es live
 
         many : getD (m .references) 0 0 ≤ 4096
         many = sound.rows-few 5 (omega arith) m (P .is-listed) (P .is-sound)

@@ -23,7 +23,7 @@ module _ (w : Voters) (rs ps hs : List ℕ) (q : PanakoQuery) (P : Posted rs ps 
   pub all-known : All (Known rs) (wordsIn w q rs ps hs)
   all-known = words-all (pairWords (gridOf (q .cfg))) (Known rs) (0 + length (hashesIn q hs)) SmallHash (λ e. (getD e 1 0 < getD rs 0 0) × SmallPosting e)
       (λ i h e k H E. all-imp (λ z. recordingOf z ≡ getD e 1 0) (Known rs) (λ z m. rw m (E .0)) (pairWords (gridOf (q .cfg)) i h e) (own (gridOf (q .cfg)) (P .packable .grid) i h e H (E .1)))
-      (postingsIn w rs ps) (all-voting (λ e. (getD e 1 0 < getD rs 0 0) × SmallPosting e) w rs (heldIn rs ps) (all-both (λ e. getD e 1 0 < getD rs 0 0) SmallPosting (heldIn rs ps) (P .held) (small-postings (getD rs 2 0) ps post-bits)))
+      (postingsIn w rs ps) (all-voting (λ e. (getD e 1 0 < getD rs 0 0) × SmallPosting e) w rs (heldIn rs ps) (all-both (λ e. getD e 1 0 < getD rs 0 0) SmallPosting (heldIn rs ps) (P .packable .rowed .ids) (small-postings (getD rs 2 0) ps post-bits)))
       (hashesIn q hs) (small-hashes (q .«q_len») hs hash-bits) 0 (omega arith)
 
 module _ (rs : List ℕ) (q : PanakoQuery) (zs : List ℤ) (known : All (Known rs) zs) (s : List ℤ) (v : ℕ) (e : v ≡ length zs) where

@@ -5,7 +5,6 @@ use mathlib.Core.Option.{Option}
 use Prim.Native.Nat.{ℕ, _+_, _*_, _≤_, _<_}
 use lib.IntN.{ℤ, pos}
 use lib.ListN.{length, getD}
-use Rattle.lists.specs.Lists.{All}
 use Rattle.lists.specs.Entries.{entries}
 use Rattle.matching.specs.declared.MatchResult.{MatchResult}
 use Rattle.model.specs.Calls.{Answer}
@@ -77,8 +76,7 @@ pub record Alike (s : List ℤ) (v n : ℕ) : Type 0 where
   pub votes : OneRecording s v
   pub binned : Binned s v (2 * v) n
 
--- postings and query hashes whose votes can be gathered; a posting is of a recording in the references
+-- postings and query hashes whose votes can be gathered
 pub record Posted (rs ps hs : List ℕ) (q : PanakoQuery) : Type 0 where
   pub limits : Limits rs q
   pub packable : Packable rs ps (getD rs 2 0) hs (q .«q_len») (gridOf (q .cfg))
-  pub held : All (λ e. getD e 1 0 < getD rs 0 0) (heldIn rs ps)

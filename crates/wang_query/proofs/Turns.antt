@@ -38,7 +38,7 @@ Walked rs q s₀ s v best i = Judged (reading q) rs (Spanned rs (q .«q_max»)) 
 module _ (rs : List ℕ) (q : WangQuery) (s₀ s : List ℤ) (v : ℕ) (best : Option (ℕ × MatchResult)) (i : ℕ) (J : Walked rs q s₀ s v best i) (h : i < v)
     (e : ℕ) (U : Run (λ (t : ℕ). leadOf 0 44 (getD s t (pos 0))) i v e) where
   -- the votes from i to e are one candidate's
-  pub candidate : Limits rs q → Candidate s i (e - i) (2 * v) q (rowWord rs (recordingOf (getD s i (pos 0))) 1)
+  pub candidate : Limits rs q → Candidate s i (e - i) (2 * v) q (rowWord rs (recordingOf (getD s i (pos 0))) atRmax)
   unfolding places
   candidate L = record {
     limited = record {
