@@ -1,17 +1,18 @@
 -- Entries that are left out: what stands after i entries have been read and q of them stay. Assumes nothing.
 use mathlib.Core.Path.{_≡_, refl, sym, ap, _∙_}
 use mathlib.Core.Logic.{⊎-elim}
-use mathlib.Core.Bool.{true, false}
-use mathlib.Core.List.{List, [], _++_, append-nil, append-assoc}
+use mathlib.Core.Bool.{true, false, cond, or-false}
+use mathlib.Core.List.{List, [], _∷_, _++_, append-nil, append-assoc}
 use Prim.Native.Nat.{ℕ, _+_, _*_, _-_, _≤_, _<_, min}
 use native.Mathlib.Nat.{mul-le-mul-left, mul-zero, mul-add}
 use native.Mathlib.Numerals.{add-one}
 use native.Mathlib.Omega.{arith}
 use lib.ListN.{length, getD, take, drop, length-append}
 use lib.Seq.{drop-drop, getD-drop, length-take-le}
-use Rattle.lists.specs.Lists.{keep, member, flat}
+use lib.Dec.{eqb}
+use Rattle.lists.specs.Lists.{keep, some?, member, flat}
 use Rattle.lists.specs.Entries.{entries, entryAt, padded}
-use Rattle.lists.proofs.Tests.{le-or-lt}
+use Rattle.lists.proofs.Tests.{test, le-or-lt}
 use Rattle.lists.proofs.Keep.{keep-append, keep-all, flat-append, all-make}
 use Rattle.lists.proofs.Entries.{stride-more, entries-append, entries-at, length-entries, entry-word, flat-entries, keep-suc}
 use Rattle.slices.specs.Parts.{pasted, cleared}
@@ -55,6 +56,19 @@ staying-run w f xs s i m h =
 staying-skip : (w f : ℕ) (xs s : List ℕ) (i : ℕ) → unnamed f xs (entryAt w i s) ≡ false → staying w (i + 1) f xs s ≡ staying w i f xs s
 unfolding staying
 staying-skip w f xs s i e = rw (add-one i) (keep-suc (unnamed f xs) w s i ∙ rw (e, append-nil))
+
+-- how many stay where one word is named: one entry more
+pub others-none : (w f x : ℕ) (s : List ℕ) → length (staying w 0 f (x ∷ []) s) ≡ 0
+unfolding staying entries keep
+others-none w f x s = refl
+
+pub others-more : (w f x : ℕ) (s : List ℕ) (i : ℕ) → f < w → length (staying w (i + 1) f (x ∷ []) s) ≡ length (staying w i f (x ∷ []) s) + cond (eqb x (getD s (w * i + f) 0)) 0 1
+unfolding some?
+others-more w f x s i h =
+    let one : member (getD s (w * i + f) 0) (x ∷ []) ≡ eqb x (getD s (w * i + f) 0) = or-false (eqb x (getD s (w * i + f) 0)) in
+    test (eqb x (getD s (w * i + f) 0))
+    (λ e. rw e (ap length (staying-skip w f (x ∷ []) s i (goes w f (x ∷ []) s i h (one ∙ e))) ∙ omega arith))
+    (λ e. rw e (ap length (staying-run w f (x ∷ []) s i 1 (λ j l. let z : i + j ≡ i = omega arith in rw z (stays w f (x ∷ []) s i h (one ∙ e)))) ∙ rw length-append (omega (arith, length-entries w 1 (drop (w * i) s)))))
 
 module _ (w f : ℕ) (xs s₀ s : List ℕ) (p i q : ℕ) (within : Within w p f s₀ 0) (ip : i < p) (d : Done w f xs s₀ s i q) where
   -- words behind entry i are as they were

@@ -1,6 +1,8 @@
 // Entries of w words in a slice: their words, and the compaction that leaves some of them out.
 ghost use mathlib.Core.Path.{_≡_};
-ghost use Prim.Native.Nat.{_+_, _*_, _<_, min};
+ghost use mathlib.Core.Bool.{cond};
+ghost use mathlib.Core.List.{[], _∷_};
+ghost use Prim.Native.Nat.{_+_, _*_, _≤_, _<_, min};
 ghost use lib.ListN.{length, getD, take};
 ghost use lib.Dec.{eqb};
 ghost use Rattle.lists.specs.Lists.{member};
@@ -12,6 +14,30 @@ pub fn word(posts: &[u32], w: usize, i: usize, f: usize) -> u32
     ensures { λ r. ⌜ r ≡ getD (now (posts .entry)) (w * i + f) 0 ⌝ }
 {
     posts[w * i + f]
+}
+
+// 0 where two words are equal, else 1.
+fn differ(a: u32, b: u32) -> usize
+    ensures { λ r. ⌜ (r ≡ cond (eqb a b) 0 1) × (r ≤ 1) ⌝ }
+{
+    if a == b {
+        return 0;
+    }
+    1
+}
+
+// How many of the first n entries have a word f other than x.
+pub fn count_others(posts: &[u32], w: usize, n: usize, f: usize, x: u32) -> usize
+    requires { ⌜ Within w n f (now posts) 0 ⌝ }
+    ensures { λ r. ⌜ r ≡ length (staying w n f (x ∷ []) (now (posts .entry))) ⌝ }
+{
+    let mut c = 0;
+    let mut i = 0;
+    while i < n {
+        c += differ(x, word(posts, w, i, f));
+        i += 1;
+    }
+    c
 }
 
 // The first entry, from `from` on, whose word f is x; p where there is none.
