@@ -1,22 +1,22 @@
--- From what the functions of `insert_merge` find in a sound store to what the model's insertion leaves. Assumes nothing.
+-- From what is found of new hashes in a sound store to what the model's insertion leaves. Assumes nothing.
 use mathlib.Core.Path.{_≡_, refl, sym, ap, _∙_, subst}
 use mathlib.Core.Bool.{true, false, cond, not, _&&_}
-use mathlib.Core.List.{List, map}
+use mathlib.Core.List.{List, [], _∷_, map}
 use Prim.Native.Nat.{ℕ, zero, suc, _+_, _*_, _-_, _/_, _≤_, _<_}
 use native.Mathlib.Nat.{mul-div-le, mul-le-mul-left}
 use native.Mathlib.Omega.{arith}
 use lib.IntN.{ℤ}
-use lib.ListN.{length, getD, take, drop, length-map, length-append}
+use lib.ListN.{length, getD, take, drop, length-map}
 use lib.Seq.{length-take-le}
 use lib.Dec.{eqb, leb, ltb}
-use borrow.Author.Tests.{ltb-false, leb-true, eqb-true, eqb-false, eq-eqb, ne-eqb, le-ltb, lt-ltb}
+use borrow.Author.Tests.{ltb-false, leb-true, eqb-true, eqb-false, eq-eqb, ne-eqb}
 use Rattle.lists.specs.Lists.{flat}
 use Rattle.lists.specs.Keys.{Ascending, placeAll}
-use Rattle.lists.specs.Entries.{entries, keyAt, keysAscend, zeroFrom, padded}
+use Rattle.lists.specs.Entries.{entries, keyOf as firstWord, keyAt, keysAscend, zeroFrom, padded}
 use Rattle.lists.proofs.Tests.{test, and-left, and-right, or-false-right}
-use Rattle.lists.proofs.Keep.{map-map, length-keep}
+use Rattle.lists.proofs.Keep.{map-map}
 use Rattle.lists.proofs.Place.{length-placeAll}
-use Rattle.lists.proofs.Entries.{length-read, read-at}
+use Rattle.lists.proofs.Entries.{length-entries, length-read, read-at}
 use Rattle.model.specs.Fingerprints.{fingerprintOf, hashesOf, hashCount, uneven, malformed, referenceMost}
 use Rattle.model.specs.Rows.{hasRmax, largestAnchor, canonical, rowOf}
 use Rattle.model.specs.Index.{Index, keyOf, posted, unskipped, isStopped, stoppedAfter, postingsAfter, newId, inserted}
@@ -30,14 +30,25 @@ use Rattle.model.proofs.Written.{row-word, fewer}
 use Rattle.model.proofs.Stores.{references-long, postings-long, sizes-listed, sound-facts, sound-read, sound-again}
 use Rattle.postings.specs.Retain.{unnamed, staying}
 use Rattle.soundness.specs.Scan.{words}
-use Rattle.insert_merge.specs.Order.{upTo, unstoppedAt, taken, packs, ordered, keysIn, oldKeys, OverKeys}
+use Rattle.postings.proofs.Compact.{staying-all}
+use Rattle.rows.specs.declared.Counts.{Counts}
+use Rattle.rows.specs.References.{CountsOf}
+use Rattle.insert_merge.specs.Order.{taken, ordered, OverKeys}
 use Rattle.insert_merge.proofs.Ordered.{sorted-ordered, length-ordered, keys-are, places-are, are-places}
 use Rattle.insert.specs.Writing.{placedEntries, recorded, idIn, postingsIn, Writable}
 use Rattle.model.specs.Run.{runInsert}
 use Rattle.insert.specs.Insert.{noRow, Ready}
+use Rattle.insert.specs.Planned.{Plannable, Found}
+use Rattle.insert.proofs.Planning.{few-taken}
 use Rattle.insert.proofs.Arrivals.{length-unskipped, stopped-is, postings-are}
 use Rattle.insert.proofs.References.{recorded-is}
 use Rattle.insert.proofs.Refusals.{refused-6, refused-7, accepted-is}
+
+-- ---- a fingerprint that is well formed
+
+few-hashes : (w : ℕ) (hashes : List ℕ) → malformed w referenceMost hashes ≡ false → hashCount w hashes ≤ 8192
+unfolding malformed
+few-hashes w hashes formed = ltb-false 8192 (hashCount w hashes) (or-false-right (uneven w hashes) (ltb 8192 (hashCount w hashes)) formed)
 
 -- ---- what a sound store says
 
@@ -64,7 +75,7 @@ module _ (w : ℕ) (m : Words) (w2 : 2 ≤ w) (l : slicesListed w m ≡ true) (s
   unfolding readIndex
   stopped-read = refl
 
-  keys-read : map keyOf (readIndex w m .postings) ≡ oldKeys w (getD (m .references) 2 0) (m .postings)
+  keys-read : map keyOf (readIndex w m .postings) ≡ map (λ e. firstWord e) (entries w (getD (m .references) 2 0) (m .postings))
   unfolding readIndex
   keys-read = map-map keyOf readPosting (entries w (getD (m .references) 2 0) (m .postings))
 
@@ -150,25 +161,20 @@ module _ (w : ℕ) (m : Words) (w2 : 2 ≤ w) (l : slicesListed w m ≡ true) (s
         stopped-unused = facts .stopped-unused;
       }
 
--- ---- a fingerprint that is well formed
+  -- a plan can be made of it
+  pub plannable : (hashes : List ℕ) → malformed w referenceMost hashes ≡ false → (h : Counts) → CountsOf (m .references) h → Plannable w (h .postings) (h .stopped) (m .postings) (m .stopped) hashes
+  plannable hashes formed h c = record {
+    wide = w2;
+    few = few-hashes w hashes formed;
+    held = rw (c .postings) (rooms .postings);
+    ascend = rw (c .postings) (rooms .ascend);
+    stopped = rw (c .stopped) (rooms .stopped);
+    stopped-ascend = rw (c .stopped) (rooms .stopped-ascend);
+  }
 
-module _ (w : ℕ) (hashes : List ℕ) (formed : malformed w referenceMost hashes ≡ false) where
-  pub few-hashes : hashCount w hashes ≤ 8192
-  unfolding malformed
-  few-hashes = ltb-false 8192 (hashCount w hashes) (or-false-right (uneven w hashes) (ltb 8192 (hashCount w hashes)) formed)
-
-pub hashes-in : (w : ℕ) (hashes : List ℕ) → (w - 1) * hashCount w hashes ≤ length hashes
-hashes-in w hashes = mul-div-le (length hashes) (w - 1)
-
--- as many places as hashes, at most
-length-upTo : (n : ℕ) → length (upTo n) ≡ n
-unfolding upTo
-length-upTo zero = refl
-length-upTo (suc n) = let ih = length-upTo n in rw length-append (omega arith)
-
-pub few-taken : (v : ℕ) (words stopped : List ℕ) (n : ℕ) → length (taken v words stopped n) ≤ n
-unfolding taken
-few-taken v words stopped n = omega (arith, length-keep (unstoppedAt v words stopped) (upTo n), length-upTo n)
+  -- no posting has the number of rows as its id
+  pub none-at-rows : (h : Counts) → CountsOf (m .references) h → staying w (h .postings) 1 (h .rows ∷ []) (m .postings) ≡ entries w (getD (m .references) 2 0) (m .postings)
+  none-at-rows h c = rw (c .postings, c .rows) (staying-all w (getD (m .references) 2 0) 1 (getD (m .references) 0 0) (m .postings) w2 (λ i l e. omega (arith, facts .id-within i l)))
 
 positive : (a : ℕ) → (a ≡ 0 → ⊥) → 0 < a
 positive zero h = absurd (h refl)
@@ -177,10 +183,9 @@ positive (suc a) h = omega arith
 recorded-same : (rs rs′ : List ℕ) (n n′ v v′ id rate rmax set p p′ k k′ : ℕ) → rs ≡ rs′ → n ≡ n′ → v ≡ v′ → p ≡ p′ → k ≡ k′ → recorded rs n v id rate rmax set p k ≡ recorded rs′ n′ v′ id rate rmax set p′ k′
 recorded-same rs rs′ n n′ v v′ id rate rmax set p p′ k k′ a b c d e = cc
 
--- ---- what is found of the new hashes
+-- ---- a store that takes one recording more
 
-module _ (w : ℕ) (m : Words) (hashes : List ℕ) (set : ℕ) (D : Ready w m hashes set) (limit rate : ℕ) (count : ℕ)
-    (many : count ≡ length (taken (w - 1) hashes (take (getD (m .references) 3 0) (m .stopped)) (hashCount w hashes))) where
+module _ (w : ℕ) (m : Words) (hashes : List ℕ) (set : ℕ) (D : Ready w m hashes set) where
   w2 : 2 ≤ w
   w2 = omega (arith, D .wide)
 
@@ -217,39 +222,70 @@ module _ (w : ℕ) (m : Words) (hashes : List ℕ) (set : ℕ) (D : Ready w m ha
   R : Room w m w2 l s
   R = rooms w m w2 l s
 
+  snd : Sound w (sizesOf w m) (readIndex w m)
+  snd = sound w m w2 l s
+
   stop : readIndex w m .stopped ≡ take (getD (m .references) 3 0) (m .stopped)
   stop = stopped-read w m w2 l s
 
-  many-ordered : count ≡ length (ordered (w - 1) hashes (take (getD (m .references) 3 0) (m .stopped)) (hashCount w hashes))
-  many-ordered = many ∙ sym (length-ordered (w - 1) hashes T N few)
+  full-not : eqb (length (readIndex w m .vacant)) 0 && eqb (length (readIndex w m .rows)) (sizesOf w m .R) ≡ false
+  full-not = full-is w m w2 l s ∙ D .row-left
 
-  -- refusal 6
-  pub six-is : ltb (sizesOf w m .P) (length (readIndex w m .postings) + length (unskipped (isStopped (readIndex w m)) (posted (newId (readIndex w m)) (hashesOf w hashes))))
-      ≡ ltb (length (m .postings) / w) (getD (m .references) 2 0 + count)
-  unfolding sizesOf
-  six-is =
-      let e : length (unskipped (isStopped x) (posted (newId x) (hashesOf w hashes))) ≡ count =
-      length-unskipped w hashes (newId x) w2 x ∙ ap (λ (t : List ℕ). length (taken (w - 1) hashes t N)) stop ∙ sym many in
-      rw (postings-many w m w2 l s, e)
+  -- the row of the new id
+  row-inside : 0 < length (readIndex w m .vacant) → newId (readIndex w m) < length (readIndex w m .rows)
+  row-inside h =
+      let e : newId x ≡ getD (x .vacant) (length (x .vacant) - 1) 0 = rw (ne-eqb (length (x .vacant)) 0 (λ q. omega arith)) in
+      rw e (snd .within (length (x .vacant) - 1) (omega arith))
 
-  -- where the postings do not fit
-  pub refused-postings : length (m .postings) / w < getD (m .references) 2 0 + count → runInsert w m limit rate set hashes ≡ (refused 6, m)
-  refused-postings more = refused-6 w m limit rate set hashes w2 l s (D .formed) (D .of-set) (full-is w m w2 l s ∙ D .row-left) (six-is ∙ lt-ltb (length (m .postings) / w) (p + count) more)
+  row-left : length (readIndex w m .vacant) ≡ 0 → length (readIndex w m .rows) < sizesOf w m .R
+  unfolding noRow sizesOf
+  row-left h =
+      let v : getD rs 1 0 ≡ 0 = sym (vacant-many w m w2 l s) ∙ h in
+      let f = rw (eq-eqb (getD rs 1 0) 0 v) at (D .row-left) in
+      let b : getD rs 0 0 ≤ (length rs - headWidth) / rowWidth = R .rows-fit in
+      omega (arith, rows-many w m w2 l s, eqb-false (getD rs 0 0) ((length rs - headWidth) / rowWidth) f)
 
-  module _ (order : List ℤ) (held : take count order ≡ packs (w - 1) hashes (ordered (w - 1) hashes (take (getD (m .references) 3 0) (m .stopped)) (hashCount w hashes))) (room : count ≤ length order) where
-    module _ (overs : List ℕ) (n : ℕ) (n-in : n ≤ length overs) (over : OverKeys limit (oldKeys w (getD (m .references) 2 0) (m .postings)) (keysIn count order) (take n overs)) where
+  row-there : headWidth + rowWidth * (idIn (m .references) + 1) ≤ length (m .references)
+  row-there =
+      let q : idIn rs < sizesOf w m .R = test (eqb (length (x .vacant)) 0)
+      (λ e. let v = eqb-true (length (x .vacant)) 0 e in
+      let d : newId x ≡ length (x .rows) = rw e in
+      rw (id-is w m w2 l s, d) (row-left v))
+      (λ e.
+      let v = positive (length (x .vacant)) (eqb-false (length (x .vacant)) 0 e) in
+      omega (arith, id-is w m w2 l s, row-inside v, snd .rows-fit)) in
+      omega (arith, R .references)
+
+  -- ---- what is found of the new hashes
+
+  module _ (limit rate count : ℕ) (many : count ≡ length (taken (w - 1) hashes (take (getD (m .references) 3 0) (m .stopped)) (hashCount w hashes))) where
+    many-ordered : count ≡ length (ordered (w - 1) hashes (take (getD (m .references) 3 0) (m .stopped)) (hashCount w hashes))
+    many-ordered = many ∙ sym (length-ordered (w - 1) hashes T N few)
+
+    -- refusal 6
+    six-is : ltb (sizesOf w m .P) (length (readIndex w m .postings) + length (unskipped (isStopped (readIndex w m)) (posted (newId (readIndex w m)) (hashesOf w hashes))))
+        ≡ ltb (length (m .postings) / w) (length (entries w (getD (m .references) 2 0) (m .postings)) + count)
+    unfolding sizesOf
+    six-is =
+        let e : length (unskipped (isStopped x) (posted (newId x) (hashesOf w hashes))) ≡ count =
+        length-unskipped w hashes (newId x) w2 x ∙ ap (λ (t : List ℕ). length (taken (w - 1) hashes t N)) stop ∙ sym many in
+        rw (postings-many w m w2 l s, e, length-entries w p (m .postings))
+
+    pub refused-postings : ltb (length (m .postings) / w) (length (entries w (getD (m .references) 2 0) (m .postings)) + count) ≡ true → runInsert w m limit rate set hashes ≡ (refused 6, m)
+    refused-postings more = refused-6 w m limit rate set hashes w2 l s (D .formed) (D .of-set) full-not (six-is ∙ more)
+
+    module _ (order : List ℤ) (overs : List ℕ) (n : ℕ)
+        (F : Found w limit (entries w (getD (m .references) 2 0) (m .postings)) (take (getD (m .references) 3 0) (m .stopped)) hashes order count overs n)
+        (fits : ltb (length (m .postings) / w) (length (entries w (getD (m .references) 2 0) (m .postings)) + count) ≡ false) where
       abbrev L : List ℕ
       L = take n overs
 
       over-read : OverKeys limit (map keyOf (readIndex w m .postings)) (map (λ j. keyAt hashes (w - 1) j) (ordered (w - 1) hashes (readIndex w m .stopped) (hashCount w hashes))) (take n overs)
       over-read =
-          let e = keys-are (w - 1) hashes T N few order count held many-ordered in
+          let e = keys-are (w - 1) hashes T N few order count (F .in-order) many-ordered in
           subst (λ (t : List ℕ). OverKeys limit (map keyOf (x .postings)) (map (λ j. keyAt hashes (w - 1) j) (ordered (w - 1) hashes t N)) (take n overs)) (sym stop)
           (subst (λ (a : List ℕ). OverKeys limit a (map (λ j. keyAt hashes (w - 1) j) (ordered (w - 1) hashes T N)) (take n overs)) (sym (keys-read w m w2 l s))
-          (subst (λ (b : List ℕ). OverKeys limit (oldKeys w p (m .postings)) b (take n overs)) e over))
-
-      snd : Sound w (sizesOf w m) (readIndex w m)
-      snd = sound w m w2 l s
+          (subst (λ (b : List ℕ). OverKeys limit (map (λ e. firstWord e) (entries w p (m .postings))) b (take n overs)) e (F .above)))
 
       -- stopped keys, and refusal 7
       stopped-left : placeAll (λ y. y) (take n overs) (take (getD (m .references) 3 0) (m .stopped)) ≡ stoppedAfter limit (readIndex w m) (posted (newId (readIndex w m)) (hashesOf w hashes))
@@ -260,36 +296,26 @@ module _ (w : ℕ) (m : Words) (hashes : List ℕ) (set : ℕ) (D : Ready w m ha
       stopped-count : length (stoppedAfter limit (readIndex w m) (posted (newId (readIndex w m)) (hashesOf w hashes))) ≡ getD (m .references) 3 0 + n
       stopped-count =
           ap length (sym stopped-left) ∙ length-placeAll (λ y. y) L T
-          ∙ rw (length-take-le k ss (R .stopped), length-take-le n overs n-in)
+          ∙ rw (length-take-le k ss (R .stopped), length-take-le n overs (F .overs-room))
 
-      pub seven-is : ltb (sizesOf w m .K) (length (stoppedAfter limit (readIndex w m) (posted (newId (readIndex w m)) (hashesOf w hashes)))) ≡ ltb (length (m .stopped)) (getD (m .references) 3 0 + n)
+      seven-is : ltb (sizesOf w m .K) (length (stoppedAfter limit (readIndex w m) (posted (newId (readIndex w m)) (hashesOf w hashes)))) ≡ ltb (length (m .stopped)) (length (take (getD (m .references) 3 0) (m .stopped)) + n)
       unfolding sizesOf
-      seven-is = rw stopped-count
+      seven-is = rw (stopped-count, length-take-le k ss (R .stopped))
+
+      pub refused-keys : ltb (length (m .stopped)) (length (take (getD (m .references) 3 0) (m .stopped)) + n) ≡ true → runInsert w m limit rate set hashes ≡ (refused 7, m)
+      refused-keys more = refused-7 w m limit rate set hashes w2 l s (D .formed) (D .of-set) full-not (six-is ∙ fits) (seven-is ∙ more)
 
       -- postings
       postings-left : postingsIn w (m .references) (m .postings) hashes order count overs n ≡ map postingWords (postingsAfter limit (readIndex w m) (posted (newId (readIndex w m)) (hashesOf w hashes)))
       unfolding placedEntries staying unnamed
       postings-left =
-          rw (places-are (w - 1) hashes T N few order count held many-ordered, id-is w m w2 l s)
+          rw (places-are (w - 1) hashes T N few order count (F .in-order) many-ordered, id-is w m w2 l s)
           (sym (postings-are w hashes (newId x) w2 x few limit L (snd .sorted) (snd .ascending) (snd .unstopped) over-read ∙ rw (words-read w m w2 l s, stop)))
 
       postings-count : length (postingsIn w (m .references) (m .postings) hashes order count overs n) ≡ length (postingsAfter limit (readIndex w m) (posted (newId (readIndex w m)) (hashesOf w hashes)))
       postings-count = ap length postings-left ∙ length-map (postingsAfter limit x (posted (newId x) (hashesOf w hashes))) postingWords
 
-      -- the references
-      row-inside : 0 < length (readIndex w m .vacant) → newId (readIndex w m) < length (readIndex w m .rows)
-      row-inside h =
-          let e : newId x ≡ getD (x .vacant) (length (x .vacant) - 1) 0 = rw (ne-eqb (length (x .vacant)) 0 (λ q. omega arith)) in
-          rw e (snd .within (length (x .vacant) - 1) (omega arith))
-
-      row-left : length (readIndex w m .vacant) ≡ 0 → length (readIndex w m .rows) < sizesOf w m .R
-      unfolding noRow sizesOf
-      row-left h =
-          let v : getD rs 1 0 ≡ 0 = sym (vacant-many w m w2 l s) ∙ h in
-          let f = rw (eq-eqb (getD rs 1 0) 0 v) at (D .row-left) in
-          let b : getD rs 0 0 ≤ (length rs - headWidth) / rowWidth = R .rows-fit in
-          omega (arith, rows-many w m w2 l s, eqb-false (getD rs 0 0) ((length rs - headWidth) / rowWidth) f)
-
+      -- the three slices
       references-left : recorded (m .references) (getD (m .references) 0 0) (getD (m .references) 1 0) (idIn (m .references)) (canonical rate) (cond (hasRmax w) (largestAnchor (hashesOf w hashes)) 0) set
           (length (postingsIn w (m .references) (m .postings) hashes order count overs n)) (getD (m .references) 3 0 + n)
           ≡ write w (sizesOf w m) (inserted w limit (fingerprintOf w rate set hashes) (readIndex w m)) .references
@@ -314,47 +340,39 @@ module _ (w : ℕ) (m : Words) (hashes : List ℕ) (set : ℕ) (D : Ready w m ha
       unfolding write inserted sizesOf
       stopped-words = ap (padded (length (m .stopped))) stopped-left
 
-      -- where there is room
-      module _ (fits : getD (m .references) 2 0 + count ≤ length (m .postings) / w) (keys-fit : getD (m .references) 3 0 + n ≤ length (m .stopped)) where
-        row-there : headWidth + rowWidth * (idIn (m .references) + 1) ≤ length (m .references)
-        row-there =
-            let q : idIn rs < sizesOf w m .R = test (eqb (length (x .vacant)) 0)
-            (λ e. let v = eqb-true (length (x .vacant)) 0 e in
-            let d : newId x ≡ length (x .rows) = rw e in
-            rw (id-is w m w2 l s, d) (row-left v))
-            (λ e.
-            let v = positive (length (x .vacant)) (eqb-false (length (x .vacant)) 0 e) in
-            omega (arith, id-is w m w2 l s, row-inside v, snd .rows-fit)) in
-            omega (arith, R .references)
+      -- where there is room for both
+      module _ (keys-fit : ltb (length (m .stopped)) (length (take (getD (m .references) 3 0) (m .stopped)) + n) ≡ false) where
+        keys-in : getD (m .references) 3 0 + n ≤ length (m .stopped)
+        keys-in = omega (arith, ltb-false (length ss) (length T + n) keys-fit, length-take-le k ss (R .stopped))
+
+        postings-in : getD (m .references) 2 0 + count ≤ length (m .postings) / w
+        postings-in = omega (arith, ltb-false (length (m .postings) / w) (length (entries w p (m .postings)) + count) fits, length-entries w p (m .postings))
 
         pub writable : Writable w (m .references) (m .postings) (m .stopped) hashes order count overs n
         writable = record {
           placing = record {
             wide = D .wide;
             narrow = D .narrow;
-            few = omega (arith, few-taken (w - 1) hashes T N, few-hashes w hashes (D .formed));
-            room = rw (R .postings-long) (mul-le-mul-left w fits);
+            few = omega (arith, few-taken (w - 1) hashes T N, few);
+            room = rw (R .postings-long) (mul-le-mul-left w postings-in);
             ascend = R .ascend;
             unused = R .unused;
-            places = are-places (w - 1) hashes T N few order count held many-ordered room (hashes-in w hashes);
-            sorted = rw (places-are (w - 1) hashes T N few order count held many-ordered) (sorted-ordered (w - 1) hashes T N few);
-            overs-room = n-in;
-            overs-ascend = over .ascending;
+            places = are-places (w - 1) hashes T N few order count (F .in-order) many-ordered (F .order-room) (mul-div-le (length hashes) (w - 1));
+            sorted = rw (places-are (w - 1) hashes T N few order count (F .in-order) many-ordered) (sorted-ordered (w - 1) hashes T N few);
+            overs-room = F .overs-room;
+            overs-ascend = F .above .ascending;
           };
-          stopping = record { room = keys-fit; ascend = R .stopped-ascend; unused = R .stopped-unused; overs-room = n-in; overs-ascend = over .ascending };
+          stopping = record { room = keys-in; ascend = R .stopped-ascend; unused = R .stopped-unused; overs-room = F .overs-room; overs-ascend = F .above .ascending };
           vacant = R .vacant-fit;
           rows = omega (arith, R .references, R .rows-fit);
           row = row-there;
           long = omega (arith, R .references, R .rows);
-          postings = omega (arith, R .postings-few);
-          stopped = omega (arith, R .stopped-few);
+          postings = omega (arith, postings-in, R .postings-few);
+          stopped = omega (arith, keys-in, R .stopped-few);
         }
 
-        full-not : eqb (length (readIndex w m .vacant)) 0 && eqb (length (readIndex w m .rows)) (sizesOf w m .R) ≡ false
-        full-not = full-is w m w2 l s ∙ D .row-left
-
         stored-run : runInsert w m limit rate set hashes ≡ (stored (newId (readIndex w m)), write w (sizesOf w m) (inserted w limit (fingerprintOf w rate set hashes) (readIndex w m)))
-        stored-run = accepted-is w m limit rate set hashes w2 l s (D .formed) (D .of-set) full-not (six-is ∙ le-ltb (length (m .postings) / w) (p + count) fits) (seven-is ∙ le-ltb (length (m .stopped)) (k + n) keys-fit)
+        stored-run = accepted-is w m limit rate set hashes w2 l s (D .formed) (D .of-set) full-not (six-is ∙ fits) (seven-is ∙ keys-fit)
 
         -- a recording that is written
         pub stored-is : (id : ℕ) (rs′ ps′ ss′ : List ℕ) → id ≡ idIn (m .references)
@@ -365,8 +383,3 @@ module _ (w : ℕ) (m : Words) (hashes : List ℕ) (set : ℕ) (D : Ready w m ha
             → (stored id, words rs′ ps′ ss′) ≡ runInsert w m limit rate set hashes
         stored-is id rs′ ps′ ss′ e er ep es =
             (λ i. (stored ((e ∙ id-is w m w2 l s) i), words ((er ∙ references-left) i) ((ep ∙ postings-words) i) ((es ∙ stopped-words) i))) ∙ sym stored-run
-
-      -- where the keys do not fit
-      pub refused-keys : getD (m .references) 2 0 + count ≤ length (m .postings) / w → length (m .stopped) < getD (m .references) 3 0 + n → runInsert w m limit rate set hashes ≡ (refused 7, m)
-      refused-keys fits more = refused-7 w m limit rate set hashes w2 l s (D .formed) (D .of-set) (full-is w m w2 l s ∙ D .row-left)
-          (six-is ∙ le-ltb (length (m .postings) / w) (p + count) fits) (seven-is ∙ lt-ltb (length (m .stopped)) (k + n) more)

@@ -22,8 +22,9 @@ use Rattle.model.proofs.Parts.{ascending-stopKeys}
 use Rattle.model.proofs.Agree.{stoppedAfter-is}
 use Rattle.insert_merge.specs.Order.{upTo, unstoppedAt, taken, ordered, OverKeys, entriesOf, without}
 use Rattle.maps.specs.Puts.{entryOf}
+use Rattle.insert_merge.proofs.Runs.{times-map}
 use Rattle.insert_merge.proofs.Ordered.{under-ordered}
-use Rattle.insert.proofs.Times.{some-kept, keep-keep, times-map, member-placeAll, ascending-placeAll, placeAll-same, keep-placeAll}
+use Rattle.insert.proofs.Times.{some-kept, keep-keep, member-placeAll, ascending-placeAll, placeAll-same, keep-placeAll}
 
 entries-upTo : (v n : ℕ) (s : List ℕ) → entries v n s ≡ map (λ j. entryAt v j s) (upTo n)
 unfolding upTo entries

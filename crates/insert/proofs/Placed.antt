@@ -13,8 +13,9 @@ use Rattle.lists.specs.Keys.{Sorted, placeAll}
 use Rattle.lists.specs.Entries.{entries, keyOf, keyAt, keysAscend, zeroFrom, padded, Wide}
 use Rattle.lists.proofs.Keep.{length-flat, length-keep, all-keep, all-map, all-make, all-of}
 use Rattle.lists.proofs.Place.{sorted-keep, sorted-map, all-placeAll, length-placeAll, placeAll-map}
-use Rattle.lists.proofs.Entries.{entries-flat, entries-take, wide-entries, length-entries, sorted-entries, entries-sorted, padded-take, length-padded}
+use Rattle.lists.proofs.Entries.{entries-flat, entries-take, wide-entries, sorted-entries, entries-sorted, padded-take, length-padded}
 use Rattle.postings.specs.Retain.{unnamed, staying, retained}
+use Rattle.postings.proofs.Compact.{staying-few, wide-staying, length-retained}
 use Rattle.insert_merge.specs.Order.{unstoppedAt, placeIn, placesIn, entriesOf, without}
 use Rattle.insert_merge.specs.Merge.{merged}
 use Rattle.maps.specs.Puts.{entryOf}
@@ -86,12 +87,10 @@ module _ (w p : ℕ) (ps words : List ℕ) (order : List ℤ) (m : ℕ) (overs :
 
   -- the old ones that stay
   wide-stay : Wide w (staying w p 0 (take n overs) ps)
-  unfolding staying
-  wide-stay = all-keep (λ (e : List ℕ). length e ≡ w) (unnamed 0 (take n overs)) (entries w p ps) (wide-entries w p ps old-in)
+  wide-stay = wide-staying w p 0 (take n overs) ps old-in
 
   few-stay : length (staying w p 0 (take n overs) ps) ≤ p
-  unfolding staying
-  few-stay = omega (arith, length-keep (unnamed 0 (take n overs)) (entries w p ps), length-entries w p ps)
+  few-stay = staying-few w p 0 (take n overs) ps
 
   sorted-stay : Sorted (λ e. keyOf e) (staying w p 0 (take n overs) ps)
   unfolding staying
@@ -105,10 +104,6 @@ module _ (w p : ℕ) (ps words : List ℕ) (order : List ℤ) (m : ℕ) (overs :
       let le : length a ≤ w * p = rw long (mul-le-mul-left w few-stay) in
       let e : w * p - length a + (length ps - w * p) ≡ length ps - length a = omega (arith, old-in) in
       rw (zeros-behind ps (w * p) old-in (P .unused), append-assoc, replicate-append-replicate {A = ℕ} (w * p - length a) (length ps - w * p) 0, e)
-
-  pub length-retained : length (retained w p 0 (take n overs) ps) ≡ length ps
-  length-retained = ap length retained-is ∙ length-padded (length ps) (flat stay)
-      (rw (length-flat w stay wide-stay) (le-trans (mul-le-mul-left w few-stay) old-in))
 
   -- the new ones
   wide-new : Wide w (entriesOf (w - 1) words id (without (w - 1) words (take n overs) (placesIn m order)))
@@ -155,7 +150,7 @@ module _ (w p : ℕ) (ps words : List ℕ) (order : List ℤ) (m : ℕ) (overs :
       let new = entriesOf (w - 1) words id js in
       let w1 : 1 ≤ w = omega (arith, P .wide) in
       let is : ps1 ≡ padded (length ps) (flat stay) = e1 ∙ retained-is in
-      let len : length ps1 ≡ length ps = ap length e1 ∙ length-retained in
+      let len : length ps1 ≡ length ps = ap length e1 ∙ length-retained w p 0 (take n overs) ps old-in in
       let is1 : ps1 ≡ padded (length ps1) (flat stay) = rw len is in
       let qp : q ≤ p = omega (arith, few-stay) in
       let rm : r ≤ m = omega (arith, few-new) in

@@ -1,17 +1,17 @@
 -- How often a key stands in a list decides whether it is there. Assumes nothing.
 use mathlib.Core.Path.{_≡_, refl, sym, ap, _∙_}
 use mathlib.Core.Bool.{Bool, true, false, _||_}
-use mathlib.Core.List.{List, [], _∷_, map}
+use mathlib.Core.List.{List, [], _∷_}
 use Prim.Native.Nat.{ℕ, suc, _+_, _≤_, _<_}
 use native.Mathlib.Omega.{arith}
-use lib.ListN.{length, length-append, length-map}
+use lib.ListN.{length, length-append}
 use lib.Dec.{eqb, ltb}
 use borrow.Author.Tests.{eqb-true, eqb-false, ne-eqb, lt-ltb, ltb-true, ltb-false}
 use Rattle.lists.specs.Lists.{keep, some?, member, All}
 use Rattle.lists.specs.Keys.{under, Sorted, Ascending, placeAll, times}
 use Rattle.lists.proofs.Tests.{test}
 use Rattle.lists.proofs.Keep.{keep-none, keep-append, all-imp}
-use Rattle.lists.proofs.Place.{sorted-ext, sorted-keep, sorted-placeAll, under-placeAll, under-map}
+use Rattle.lists.proofs.Place.{sorted-ext, sorted-keep, sorted-placeAll, under-placeAll}
 use Rattle.lists.proofs.Ascending.{ascending-sorted}
 use Rattle.insert_merge.proofs.Runs.{times-here}
 
@@ -37,9 +37,6 @@ either a b = test (ltb 0 a)
     (λ e. let z : a ≡ 0 = omega (arith, ltb-false 0 a e) in let s : a + b ≡ b = omega arith in rw (e, s))
 
 -- ---- keys
-
-pub times-map : {A : Type 0} (key : A → ℕ) (k : ℕ) (l : List A) → times k (map key l) ≡ length (under key k l)
-times-map key k l = ap length (under-map (λ (x : ℕ). x) key k l) ∙ length-map (under key k l) key
 
 times-more : (k x : ℕ) (l : List ℕ) → times k l ≤ times k (x ∷ l)
 unfolding keep

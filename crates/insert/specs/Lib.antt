@@ -1,3 +1,4 @@
--- What an insertion writes, answers and leaves.
+-- What an insertion would do, writes, answers and leaves.
 pub mod Writing
+pub mod Planned
 pub mod Insert

@@ -1,8 +1,9 @@
 // The insertion of a recording into a lent store.
 ghost use mathlib.Core.Path.{_≡_};
 ghost use mathlib.Core.Bool.{cond};
-ghost use Prim.Native.Nat.{_+_, _*_, _-_, _≤_};
-ghost use lib.Dec.{eqb};
+ghost use mathlib.Core.List.{[], _∷_};
+ghost use Prim.Native.Nat.{_+_, _*_, _-_, _/_, _^_, _≤_, _<_};
+ghost use lib.Dec.{eqb, ltb};
 ghost use lib.ListN.{length, getD, take};
 ghost use Rattle.lists.specs.Lists.{flat};
 ghost use Rattle.lists.specs.Keys.{placeAll};
@@ -12,9 +13,11 @@ ghost use Rattle.model.specs.Rows.{hasRmax, largestAnchor, canonical};
 ghost use Rattle.model.specs.Soundness.{rowWord};
 ghost use Rattle.model.specs.Run.{runInsert};
 ghost use Rattle.model.specs.Words.{headWidth, rowWidth, atVacant};
+ghost use Rattle.postings.specs.Retain.{staying};
 ghost use Rattle.insert_merge.specs.Order.{placesIn};
 ghost use Rattle.soundness.specs.Scan.{lent};
 ghost use Rattle.insert.specs.Writing.{Placing, placedEntries, Stopping, recorded, Recording, idIn, postingsIn, Writable};
+ghost use Rattle.insert.specs.Planned.{Plannable, Planned};
 ghost use Rattle.insert.specs.Insert.{insertionAnswer, Ready, noRow};
 use rows::Counts;
 use rows::Row;
@@ -88,7 +91,7 @@ fn put_recording(refs: &mut [u32], c: Counts, id: usize, row: Row, p: usize, k: 
 }
 
 // Writes a recording that is accepted; its id.
-fn write_recording(
+pub fn write_recording(
     refs: &mut [u32],
     posts: &mut [u32],
     stops: &mut [u32],
@@ -131,6 +134,70 @@ fn is_full(refs: &[u32]) -> bool
     h.rows == (refs.len() - rows::HEAD_WIDTH) / rows::ROW_WIDTH
 }
 
+// Whether m more postings do not fit beside the p that there are, less those of recording id. Those of id are counted only where it matters.
+fn lacks_room(posts: &[u32], w: usize, p: usize, id: u32, m: usize) -> bool
+    requires { ⌜ (2 ≤ w) × (w * p ≤ length (now posts)) × (m < 2 ^ 32) ⌝ }
+    ensures { λ r. ⌜ r ≡ ltb (length (now (posts .entry)) / w) (length (staying w p 1 (id ∷ []) (now (posts .entry))) + m) ⌝ }
+{
+    let room = posts.len() / w;
+    if p + m <= room {
+        return false;
+    }
+    room < postings::count_others(posts, w, p, 1, id) + m
+}
+
+// What an insertion would do: the number it is refused by, 0 where it is not; how many hashes are not skipped, and how many keys are stopped.
+pub struct Plan {
+    pub number: u32,
+    pub hashes: usize,
+    pub keys: usize,
+}
+
+// Plans an insertion into a store in which so much is in use, less the postings of recording id: refusals 6 and 7, the hashes that are not skipped,
+// in order, and the keys that it stops.
+pub fn plan_insertion(
+    order: &mut [i64],
+    overs: &mut [u32],
+    hashes: &[u32],
+    w: usize,
+    posts: &[u32],
+    stops: &[u32],
+    c: Counts,
+    id: u32,
+    limit: u32,
+) -> Plan
+    requires { ⌜ Plannable w (c .postings) (c .stopped) (now posts) (now stops) (now hashes) ⌝ }
+    requires { ⌜ (16384 ≤ length (now order)) × (8192 ≤ length (now overs)) ⌝ }
+    ensures { λ r. ⌜ Planned w limit (length (now (posts .entry)) / w) (length (now (stops .entry))) (staying w (c .postings) 1 (id ∷ []) (now (posts .entry)))
+        (take (c .stopped) (now (stops .entry))) (now (hashes .entry)) (now (order .exit)) (now (overs .exit)) r ⌝ }
+{
+    let p = c.postings;
+    let k = c.stopped;
+    let v = w - 1;
+    let m = insert_merge::collect(order, hashes, v, hashes.len() / v, stops, k);
+    if lacks_room(posts, w, p, id, m) {
+        return Plan {
+            number: 6,
+            hashes: m,
+            keys: 0,
+        };
+    }
+    sorting::sort_words(order, m);
+    let n = insert_merge::over_keys(overs, order, m, posts, w, p, limit, id);
+    if stops.len() < k + n {
+        return Plan {
+            number: 7,
+            hashes: m,
+            keys: n,
+        };
+    }
+    Plan {
+        number: 0,
+        hashes: m,
+        keys: n,
+    }
+}
+
 // An insertion into a sound store that has a row left, of a fingerprint that is well formed, under a set that is allowed.
 fn admit(
     refs: &mut [u32],
@@ -147,19 +214,12 @@ fn admit(
         ≡ runInsert w (lent (refs .entry) (posts .entry) (stops .entry)) limit rate set (now (hashes .entry)) ⌝ }
 {
     let h = rows::header(refs);
-    let p = h.postings;
-    let k = h.stopped;
-    let v = w - 1;
     let mut order = [0i64; 16384];
-    let m = insert_merge::collect(&mut order, hashes, v, hashes.len() / v, stops, k);
-    if posts.len() / w < p + m {
-        return Insertion::Refused(6);
-    }
-    sorting::sort_words(&mut order, m);
     let mut overs = [0u32; 8192];
-    let n = insert_merge::over_keys(&mut overs, &order, m, posts, w, p, limit);
-    if stops.len() < k + n {
-        return Insertion::Refused(7);
+    // no posting has the number of rows as its id
+    let r = plan_insertion(&mut order, &mut overs, hashes, w, posts, stops, h, h.rows as u32, limit);
+    if r.number != 0 {
+        return Insertion::Refused(r.number);
     }
     Insertion::Stored(write_recording(
         refs,
@@ -170,9 +230,9 @@ fn admit(
         rate,
         set,
         &order,
-        m,
+        r.hashes,
         &overs,
-        n,
+        r.keys,
     ))
 }
 

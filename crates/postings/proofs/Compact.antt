@@ -7,14 +7,15 @@ use Prim.Native.Nat.{ℕ, _+_, _*_, _-_, _≤_, _<_, min}
 use native.Mathlib.Nat.{mul-le-mul-left, mul-zero, mul-add}
 use native.Mathlib.Numerals.{add-one}
 use native.Mathlib.Omega.{arith}
-use lib.ListN.{length, getD, take, drop, length-append}
+use lib.ListN.{length, getD, take, drop, replicate, length-append, length-drop}
 use lib.Seq.{drop-drop, getD-drop, length-take-le}
 use lib.Dec.{eqb}
+use borrow.Author.Tests.{ne-eqb}
 use Rattle.lists.specs.Lists.{keep, some?, member, flat}
-use Rattle.lists.specs.Entries.{entries, entryAt, padded}
+use Rattle.lists.specs.Entries.{entries, entryAt, padded, Wide}
 use Rattle.lists.proofs.Tests.{test, le-or-lt}
-use Rattle.lists.proofs.Keep.{keep-append, keep-all, flat-append, all-make}
-use Rattle.lists.proofs.Entries.{stride-more, entries-append, entries-at, length-entries, entry-word, flat-entries, keep-suc}
+use Rattle.lists.proofs.Keep.{keep-append, keep-all, length-keep, flat-append, length-flat, all-make, all-keep}
+use Rattle.lists.proofs.Entries.{stride-more, entries-append, entries-at, length-entries, entry-word, flat-entries, all-entries, keep-suc, wide-entries, entries-flat, length-padded}
 use Rattle.slices.specs.Parts.{pasted, cleared}
 use Rattle.slices.proofs.Moved.{length-moved, take-moved, drop-behind}
 use Rattle.postings.specs.Retain.{unnamed, staying, retained, Within, Until}
@@ -57,7 +58,16 @@ staying-skip : (w f : ℕ) (xs s : List ℕ) (i : ℕ) → unnamed f xs (entryAt
 unfolding staying
 staying-skip w f xs s i e = rw (add-one i) (keep-suc (unnamed f xs) w s i ∙ rw (e, append-nil))
 
--- how many stay where one word is named: one entry more
+-- how many stay; where one word is named, one entry more
+pub staying-few : (w p f : ℕ) (xs s : List ℕ) → length (staying w p f xs s) ≤ p
+unfolding staying
+staying-few w p f xs s = omega (arith, length-keep (unnamed f xs) (entries w p s), length-entries w p s)
+
+pub staying-all : (w p f x : ℕ) (s : List ℕ) → f < w → ((i : ℕ) → i < p → x ≡ getD s (w * i + f) 0 → ⊥) → staying w p f (x ∷ []) s ≡ entries w p s
+unfolding staying some?
+staying-all w p f x s h none-is = keep-all (unnamed f (x ∷ [])) (entries w p s) (all-entries (λ e. unnamed f (x ∷ []) e ≡ true) w p s
+    (λ i l. stays w f (x ∷ []) s i h (or-false (eqb x (getD s (w * i + f) 0)) ∙ ne-eqb x (getD s (w * i + f) 0) (none-is i l))))
+
 pub others-none : (w f x : ℕ) (s : List ℕ) → length (staying w 0 f (x ∷ []) s) ≡ 0
 unfolding staying entries keep
 others-none w f x s = refl
@@ -69,6 +79,22 @@ others-more w f x s i h =
     test (eqb x (getD s (w * i + f) 0))
     (λ e. rw e (ap length (staying-skip w f (x ∷ []) s i (goes w f (x ∷ []) s i h (one ∙ e))) ∙ omega arith))
     (λ e. rw e (ap length (staying-run w f (x ∷ []) s i 1 (λ j l. let z : i + j ≡ i = omega arith in rw z (stays w f (x ∷ []) s i h (one ∙ e)))) ∙ rw length-append (omega (arith, length-entries w 1 (drop (w * i) s)))))
+
+-- those that stay are what is retained, read again
+module _ (w p f : ℕ) (xs s : List ℕ) (room : w * p ≤ length s) where
+  pub wide-staying : Wide w (staying w p f xs s)
+  unfolding staying
+  wide-staying = all-keep (λ (e : List ℕ). length e ≡ w) (unnamed f xs) (entries w p s) (wide-entries w p s room)
+
+  pub retained-entries : entries w (length (staying w p f xs s)) (retained w p f xs s) ≡ staying w p f xs s
+  unfolding retained padded
+  retained-entries = rw append-assoc (entries-flat w (staying w p f xs s) (replicate (w * p - length (flat (staying w p f xs s))) 0 ++ drop (w * p) s) wide-staying)
+
+  pub length-retained : length (retained w p f xs s) ≡ length s
+  unfolding retained
+  length-retained =
+      let few : length (flat (staying w p f xs s)) ≤ w * p = rw (length-flat w (staying w p f xs s) wide-staying) (mul-le-mul-left w (staying-few w p f xs s)) in
+      rw (length-append, length-padded (w * p) (flat (staying w p f xs s)) few, length-drop) (omega arith)
 
 module _ (w f : ℕ) (xs s₀ s : List ℕ) (p i q : ℕ) (within : Within w p f s₀ 0) (ip : i < p) (d : Done w f xs s₀ s i q) where
   -- words behind entry i are as they were

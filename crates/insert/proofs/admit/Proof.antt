@@ -1,69 +1,62 @@
 -- `insert::admit` meets its contract. Assumes nothing.
-use mathlib.Core.Path.{_≡_, refl, sym, _∙_}
+use mathlib.Core.Path.{refl, sym}
+use Prim.Native.Nat.{_≤_}
 use native.Mathlib.Omega.{arith}
-use lib.ListN.{length}
-use Rattle.insert.proofs.Admitted as admitted
+use Rattle.model.specs.Words.{Words}
+use Rattle.soundness.specs.Scan.{words}
+use Rattle.insert.specs.Planned.{PlannedIn}
+use Rattle.insert.proofs.Admission.{Room, rooms, plannable, none-at-rows}
+use Rattle.insert.proofs.Admitted.{plan-left, plan-refuses, plan-allows, plan-stores}
 use borrow.Author.Needs.{needs}
 use Rattle.insert.proofs.admit.Statement.{statement}
 use Rattle.insert.proofs.admit.Tie as tie
 
+module _ (s : tie.Start) where
+  abbrev m : Words
+  m = words (s .args .refs .now) (s .args .posts .now) (s .args .stops .now)
+
+  w2 : 2 ≤ s .args .w
+  w2 = omega (arith, s .pre .wide)
+
+  R : Room (s .args .w) m w2 (s .pre .is-listed) (s .pre .is-sound)
+  R = rooms (s .args .w) m w2 (s .pre .is-listed) (s .pre .is-sound)
+
 -- once the header is read
 module _ (d : tie.After-header) where
-  abbrev s : tie.Start
-  s = d .before .before .before .before .before .before
+  abbrev s0 : tie.Start
+  s0 = d .before .before .before .before .before .before
 
--- once the hashes are collected
-module _ (d : tie.After-collect) where
+-- once the plan is made
+module _ (d : tie.After-plan-insertion) where
   abbrev hd : tie.After-header
-  hd = d .before .before .before
+  hd = d .before .before .before .before .before .before
 
-  long : length (d .collect .last .0) ≡ 16384
-  long = d .collect .kept .0
-
--- once they are sorted
-module _ (d : tie.After-sort-words) where
-  abbrev col : tie.After-collect
-  col = d .before .before .before .before
-
-  sorted-long : length (d .sort-words .last .0) ≡ 16384
-  sorted-long = d .sort-words .kept .0 ∙ long col
-
--- once the keys above the limit are found
-module _ (d : tie.After-over-keys) where
-  abbrev srt : tie.After-sort-words
-  srt = d .before .before .before .before .before
-
-  over-long : length (d .over-keys .last .0) ≡ 8192
-  over-long = d .over-keys .kept .0
+  planned : PlannedIn (s0 hd .args .w) (s0 hd .args .limit) (m (s0 hd)) (s0 hd .args .hashes .now) (d .plan-insertion .last .0) (d .plan-insertion .last .1 .0) (d .plan-insertion .result)
+  planned =
+      let s = s0 hd in
+      let h = hd .header in
+      plan-left (h .result .postings) (h .result .rows) (s .args .posts .now) (s .args .refs .now) (s .args .posts .now) (s .args .stops .now)
+      (sym (none-at-rows (s .args .w) (m s) (w2 s) (s .pre .is-listed) (s .pre .is-sound) (h .result) (h .ensures))) refl (sym (h .ensures .stopped)) (d .plan-insertion .ensures)
 
 header-requires : tie.Need-header-requires
-header-requires c κs =
-    let s0 = c .before .before .before .before .before in
-    admitted.head-in (s0 .args .w) (s0 .args .refs .now) (s0 .args .posts .now) (s0 .args .stops .now) (s0 .args .hashes .now) (s0 .args .limit) (s0 .args .rate) (s0 .args .set) (s0 .pre)
+header-requires c κs = omega (arith, R (c .before .before .before .before .before) .references)
 
-sub-v : tie.Need-sub-v
-sub-v c = search needs
+slice-aggregate-plan-insertion : tie.Need-slice-aggregate-plan-insertion
+slice-aggregate-plan-insertion c = search needs
 
-slice-aggregate-collect : tie.Need-slice-aggregate-collect
-slice-aggregate-collect c = search needs
+slice-aggregate-plan-insertion-2 : tie.Need-slice-aggregate-plan-insertion-2
+slice-aggregate-plan-insertion-2 c = search needs
 
-div-collect : tie.Need-div-collect
-div-collect c = search needs
+cast-plan-insertion : tie.Need-cast-plan-insertion
+cast-plan-insertion c =
+    let d = c .before .before .before .before .before in
+    omega (arith, d .header .ensures .rows, R (s0 d) .rows-fit, R (s0 d) .rows)
 
-collect-requires : tie.Need-collect-requires
-collect-requires c κs =
-    let hd0 = c .before .before in
-    let C = admitted.collectable (s hd0 .args .w) (s hd0 .args .refs .now) (s hd0 .args .posts .now) (s hd0 .args .stops .now) (s hd0 .args .hashes .now) (s hd0 .args .limit) (s hd0 .args .rate) (s hd0 .args .set) (s hd0 .pre) (hd0 .header .result) (hd0 .header .ensures) _ refl in
-    ((C .words-some, C .whole, C .small, C .room), (C .stopped, C .ascend))
-
-div-if1 : tie.Need-div-if1
-div-if1 c = search needs
-
-add-if1 : tie.Need-add-if1
-add-if1 c =
-    let co = c .before in
-    let hd0 = hd co in
-    omega (arith, admitted.postings-sum (s hd0 .args .w) (s hd0 .args .refs .now) (s hd0 .args .posts .now) (s hd0 .args .stops .now) (s hd0 .args .hashes .now) (s hd0 .args .limit) (s hd0 .args .rate) (s hd0 .args .set) (s hd0 .pre) (hd0 .header .result) (hd0 .header .ensures) (co .collect .result) (co .collect .ensures .0))
+plan-insertion-requires : tie.Need-plan-insertion-requires
+plan-insertion-requires c κs =
+    let d = c .before .before .before .before .before in
+    let s = s0 d in
+    (plannable (s .args .w) (m s) (w2 s) (s .pre .is-listed) (s .pre .is-sound) (s .args .hashes .now) (s .pre .formed) (d .header .result) (d .header .ensures), (omega arith, omega arith))
 
 same-length : tie.Need-same-length
 same-length c = search needs
@@ -71,63 +64,13 @@ same-length c = search needs
 same-length-2 : tie.Need-same-length-2
 same-length-2 c = search needs
 
-returns : tie.Need-returns
-returns c =
-    let co = c .before .before in
-    let hd0 = hd co in
-    sym (admitted.refused-six (s hd0 .args .w) (s hd0 .args .refs .now) (s hd0 .args .posts .now) (s hd0 .args .stops .now) (s hd0 .args .hashes .now) (s hd0 .args .limit) (s hd0 .args .rate) (s hd0 .args .set) (s hd0 .pre) (hd0 .header .result) (hd0 .header .ensures) (co .collect .result) (co .collect .ensures .0) (c .if1 .taken))
-
-slice-aggregate-sort-words : tie.Need-slice-aggregate-sort-words
-slice-aggregate-sort-words c = search needs
-
-sort-words-requires : tie.Need-sort-words-requires
-sort-words-requires c κs =
-    let co = c .before .before .before in
-    let hd0 = hd co in
-    omega (arith, long co, admitted.few-new (s hd0 .args .w) (s hd0 .args .refs .now) (s hd0 .args .posts .now) (s hd0 .args .stops .now) (s hd0 .args .hashes .now) (s hd0 .args .limit) (s hd0 .args .rate) (s hd0 .args .set) (s hd0 .pre) (hd0 .header .result) (hd0 .header .ensures) (co .collect .result) (co .collect .ensures .0))
-
-slice-aggregate-over-keys : tie.Need-slice-aggregate-over-keys
-slice-aggregate-over-keys c = search needs
-
-slice-aggregate-over-keys-2 : tie.Need-slice-aggregate-over-keys-2
-slice-aggregate-over-keys-2 c = search needs
-
-over-keys-requires : tie.Need-over-keys-requires
-over-keys-requires c κs =
-    let so = c .before .before .before .before in
-    let co = col so in
-    let hd0 = hd co in (
-      (
-        admitted.by-key (s hd0 .args .w) (s hd0 .args .refs .now) (s hd0 .args .posts .now) (s hd0 .args .stops .now) (s hd0 .args .hashes .now) (s hd0 .args .limit) (s hd0 .args .rate) (s hd0 .args .set) (s hd0 .pre) (hd0 .header .result) (hd0 .header .ensures) (co .collect .result) (co .collect .ensures .0) (co .collect .last .0) (so .sort-words .last .0) (co .collect .ensures .1) (so .sort-words .ensures .0) (sorted-long so) (λ t. hd0 .before .before .shared-slice-known .given t .fits),
-        omega (arith, admitted.few-new (s hd0 .args .w) (s hd0 .args .refs .now) (s hd0 .args .posts .now) (s hd0 .args .stops .now) (s hd0 .args .hashes .now) (s hd0 .args .limit) (s hd0 .args .rate) (s hd0 .args .set) (s hd0 .pre) (hd0 .header .result) (hd0 .header .ensures) (co .collect .result) (co .collect .ensures .0)),
-      ),
-      (omega (arith, s hd0 .pre .wide), admitted.posts-fit (s hd0 .args .w) (s hd0 .args .refs .now) (s hd0 .args .posts .now) (s hd0 .args .stops .now) (s hd0 .args .hashes .now) (s hd0 .args .limit) (s hd0 .args .rate) (s hd0 .args .set) (s hd0 .pre) (hd0 .header .result) (hd0 .header .ensures) (co .collect .result) (co .collect .ensures .0) (co .collect .last .0) (so .sort-words .last .0) (co .collect .ensures .1) (so .sort-words .ensures .0) (sorted-long so), admitted.posts-ascend (s hd0 .args .w) (s hd0 .args .refs .now) (s hd0 .args .posts .now) (s hd0 .args .stops .now) (s hd0 .args .hashes .now) (s hd0 .args .limit) (s hd0 .args .rate) (s hd0 .args .set) (s hd0 .pre) (hd0 .header .result) (hd0 .header .ensures) (co .collect .result) (co .collect .ensures .0) (co .collect .last .0) (so .sort-words .last .0) (co .collect .ensures .1) (so .sort-words .ensures .0) (sorted-long so)),
-    )
-
-add-if2 : tie.Need-add-if2
-add-if2 c =
-    let ov = c .before in
-    let so = srt ov in
-    let co = col so in
-    let hd0 = hd co in
-    omega (arith, admitted.stopped-sum (s hd0 .args .w) (s hd0 .args .refs .now) (s hd0 .args .posts .now) (s hd0 .args .stops .now) (s hd0 .args .hashes .now) (s hd0 .args .limit) (s hd0 .args .rate) (s hd0 .args .set) (s hd0 .pre) (hd0 .header .result) (hd0 .header .ensures) (co .collect .result) (co .collect .ensures .0) (co .collect .last .0) (so .sort-words .last .0) (co .collect .ensures .1) (so .sort-words .ensures .0) (sorted-long so) (ov .over-keys .last .0) (ov .over-keys .result) (ov .over-keys .ensures .0) (over-long ov) (ov .over-keys .ensures .1))
-
 same-length-3 : tie.Need-same-length-3
 same-length-3 c = search needs
 
-same-length-4 : tie.Need-same-length-4
-same-length-4 c = search needs
-
-same-length-5 : tie.Need-same-length-5
-same-length-5 c = search needs
-
-returns-2 : tie.Need-returns-2
-returns-2 c =
-    let ov = c .before .before in
-    let so = srt ov in
-    let co = col so in
-    let hd0 = hd co in
-    sym (admitted.refused-seven (s hd0 .args .w) (s hd0 .args .refs .now) (s hd0 .args .posts .now) (s hd0 .args .stops .now) (s hd0 .args .hashes .now) (s hd0 .args .limit) (s hd0 .args .rate) (s hd0 .args .set) (s hd0 .pre) (hd0 .header .result) (hd0 .header .ensures) (co .collect .result) (co .collect .ensures .0) (co .collect .last .0) (so .sort-words .last .0) (co .collect .ensures .1) (so .sort-words .ensures .0) (sorted-long so) (ov .over-keys .last .0) (ov .over-keys .result) (ov .over-keys .ensures .0) (over-long ov) (ov .over-keys .ensures .1) (so .before .before .if1 .left) (c .if2 .taken))
+returns : tie.Need-returns
+returns c =
+    let d = c .before .before .before .before in
+    sym (plan-refuses (s0 (hd d) .args .rate) (s0 (hd d) .pre) (planned d) (c .if1 .taken))
 
 slice-aggregate-write-recording : tie.Need-slice-aggregate-write-recording
 slice-aggregate-write-recording c = search needs
@@ -137,61 +80,44 @@ slice-aggregate-write-recording-2 c = search needs
 
 write-recording-requires : tie.Need-write-recording-requires
 write-recording-requires c κs =
-    let el = c .before .before .before .before .before in
-    let ov = el .before .before in
-    let so = srt ov in
-    let co = col so in
-    let hd0 = hd co in
-    admitted.may-write (s hd0 .args .w) (s hd0 .args .refs .now) (s hd0 .args .posts .now) (s hd0 .args .stops .now) (s hd0 .args .hashes .now) (s hd0 .args .limit) (s hd0 .args .rate) (s hd0 .args .set) (s hd0 .pre) (hd0 .header .result) (hd0 .header .ensures) (co .collect .result) (co .collect .ensures .0) (co .collect .last .0) (so .sort-words .last .0) (co .collect .ensures .1) (so .sort-words .ensures .0) (sorted-long so) (ov .over-keys .last .0) (ov .over-keys .result) (ov .over-keys .ensures .0) (over-long ov) (ov .over-keys .ensures .1) (so .before .before .if1 .left) (el .if2 .left)
+    let e = c .before .before .before .before .before in
+    let d = e .before .before .before .before in
+    plan-allows (s0 (hd d) .args .rate) (s0 (hd d) .pre) (planned d) (e .if1 .left)
+
+same-length-4 : tie.Need-same-length-4
+same-length-4 c = search needs
+
+same-length-5 : tie.Need-same-length-5
+same-length-5 c = search needs
 
 same-length-6 : tie.Need-same-length-6
 same-length-6 c = search needs
 
-same-length-7 : tie.Need-same-length-7
-same-length-7 c = search needs
-
-same-length-8 : tie.Need-same-length-8
-same-length-8 c = search needs
-
-returns-3 : tie.Need-returns-3
-returns-3 c =
+returns-2 : tie.Need-returns-2
+returns-2 c =
     let wr = c .before .before .before .before .before .before in
-    let el = wr .before .before .before .before .before .before in
-    let ov = el .before .before in
-    let so = srt ov in
-    let co = col so in
-    let hd0 = hd co in
+    let e = wr .before .before .before .before .before .before in
+    let d = e .before .before .before .before in
     let k = wr .write-recording .ensures in
-    admitted.stores (s hd0 .args .w) (s hd0 .args .refs .now) (s hd0 .args .posts .now) (s hd0 .args .stops .now) (s hd0 .args .hashes .now) (s hd0 .args .limit) (s hd0 .args .rate) (s hd0 .args .set) (s hd0 .pre) (hd0 .header .result) (hd0 .header .ensures) (co .collect .result) (co .collect .ensures .0) (co .collect .last .0) (so .sort-words .last .0) (co .collect .ensures .1) (so .sort-words .ensures .0) (sorted-long so) (ov .over-keys .last .0) (ov .over-keys .result) (ov .over-keys .ensures .0) (over-long ov) (ov .over-keys .ensures .1) (so .before .before .if1 .left) (el .if2 .left) _ _ _ _ (k .0) (k .1 .0) (k .1 .1 .0) (k .1 .1 .1)
+    plan-stores (s0 (hd d) .args .rate) (s0 (hd d) .pre) (planned d) (e .if1 .left) _ _ _ _ (k .0) (k .1 .0) (k .1 .1 .0) (k .1 .1 .1)
 
 pub admit-spec : {M : Type 1} → statement M
 admit-spec =
     tie.close
     (tie.spec
     header-requires
-    sub-v
-    slice-aggregate-collect
-    div-collect
-    collect-requires
-    div-if1
-    add-if1
+    slice-aggregate-plan-insertion
+    slice-aggregate-plan-insertion-2
+    cast-plan-insertion
+    plan-insertion-requires
     same-length
     same-length-2
-    returns
-    slice-aggregate-sort-words
-    sort-words-requires
-    slice-aggregate-over-keys
-    slice-aggregate-over-keys-2
-    over-keys-requires
-    add-if2
     same-length-3
-    same-length-4
-    same-length-5
-    returns-2
+    returns
     slice-aggregate-write-recording
     slice-aggregate-write-recording-2
     write-recording-requires
+    same-length-4
+    same-length-5
     same-length-6
-    same-length-7
-    same-length-8
-    returns-3)
+    returns-2)
