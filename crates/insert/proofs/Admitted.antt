@@ -1,8 +1,8 @@
 -- What follows of a plan, for the store into which is inserted: the model's answer, and that the recording may be written. Assumes nothing.
-use mathlib.Core.Path.{_≡_, refl, sym, ap, _∙_, subst}
-use mathlib.Core.Bool.{Bool, true, false, cond}
+use mathlib.Core.Path.{_≡_, sym, ap, _∙_, subst}
+use mathlib.Core.Bool.{Bool, false, cond}
 use mathlib.Core.List.{List, [], _∷_}
-use Prim.Native.Nat.{ℕ, _+_, _*_, _-_, _/_, _^_, _≤_, _<_}
+use Prim.Native.Nat.{ℕ, _+_, _/_}
 use native.Mathlib.Omega.{arith}
 use lib.IntN.{ℤ}
 use lib.ListN.{length, getD, take}
@@ -14,12 +14,12 @@ use Rattle.lists.proofs.Tests.{test}
 use Rattle.model.specs.Fingerprints.{hashesOf}
 use Rattle.model.specs.Rows.{hasRmax, largestAnchor, canonical}
 use Rattle.model.specs.Calls.{stored, refused}
-use Rattle.model.specs.Words.{Words, headWidth}
+use Rattle.model.specs.Words.{Words}
 use Rattle.model.specs.Run.{runInsert}
 use Rattle.postings.specs.Retain.{staying}
 use Rattle.soundness.specs.Scan.{words}
 use Rattle.insert.specs.declared.Plan.{Plan}
-use Rattle.insert.specs.Planned.{Found, Planned, PlannedIn}
+use Rattle.insert.specs.Planned.{Planned, PlannedIn}
 use Rattle.insert.specs.Writing.{recorded, idIn, postingsIn, Writable}
 use Rattle.insert.specs.Insert.{Ready}
 use Rattle.insert.proofs.Admission.{refused-postings, refused-keys, writable, stored-is}

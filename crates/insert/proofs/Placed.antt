@@ -13,7 +13,7 @@ use Rattle.lists.specs.Keys.{Sorted, placeAll}
 use Rattle.lists.specs.Entries.{entries, keyOf, keyAt, keysAscend, zeroFrom, padded, Wide}
 use Rattle.lists.proofs.Keep.{length-flat, length-keep, all-keep, all-map, all-make, all-of}
 use Rattle.lists.proofs.Place.{sorted-keep, sorted-map, all-placeAll, length-placeAll, placeAll-map}
-use Rattle.lists.proofs.Entries.{entries-flat, entries-take, wide-entries, sorted-entries, entries-sorted, padded-take, length-padded}
+use Rattle.lists.proofs.Entries.{entries-flat, entries-take, sorted-entries, entries-sorted, padded-take}
 use Rattle.postings.specs.Retain.{unnamed, staying, retained}
 use Rattle.postings.proofs.Compact.{staying-few, wide-staying, length-retained}
 use Rattle.insert_merge.specs.Order.{unstoppedAt, placeIn, placesIn, entriesOf, without}

@@ -17,8 +17,7 @@ use Rattle.postings.specs.Retain.{staying}
 use Rattle.postings.proofs.Compact.{staying-few}
 use Rattle.insert_merge.specs.Order.{upTo, unstoppedAt, taken, packs, ordered, keysIn, otherKeys, ByKey, OverKeys}
 use Rattle.insert_merge.proofs.Ordered.{length-ordered, sort-packs, is-by-key}
-use Rattle.insert.specs.declared.Plan.{Plan}
-use Rattle.insert.specs.Planned.{Plannable, Found, Planned}
+use Rattle.insert.specs.Planned.{Plannable, Planned}
 
 -- as many places as hashes, at most
 length-upTo : (n : ℕ) → length (upTo n) ≡ n

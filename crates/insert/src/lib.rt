@@ -146,6 +146,16 @@ fn lacks_room(posts: &[u32], w: usize, p: usize, id: u32, m: usize) -> bool
     room < postings::count_others(posts, w, p, 1, id) + m
 }
 
+// 7 where so many stopped keys do not fit, else 0.
+fn keys_refusal(room: usize, keys: usize) -> u32
+    ensures { λ r. ⌜ r ≡ cond (ltb room keys) 7 0 ⌝ }
+{
+    if room < keys {
+        return 7;
+    }
+    0
+}
+
 // What an insertion would do: the number it is refused by, 0 where it is not; how many hashes are not skipped, and how many keys are stopped.
 pub struct Plan {
     pub number: u32,
@@ -184,15 +194,8 @@ pub fn plan_insertion(
     }
     sorting::sort_words(order, m);
     let n = insert_merge::over_keys(overs, order, m, posts, w, p, limit, id);
-    if stops.len() < k + n {
-        return Plan {
-            number: 7,
-            hashes: m,
-            keys: n,
-        };
-    }
     Plan {
-        number: 0,
+        number: keys_refusal(stops.len(), k + n),
         hashes: m,
         keys: n,
     }
@@ -217,7 +220,17 @@ fn admit(
     let mut order = [0i64; 16384];
     let mut overs = [0u32; 8192];
     // no posting has the number of rows as its id
-    let r = plan_insertion(&mut order, &mut overs, hashes, w, posts, stops, h, h.rows as u32, limit);
+    let r = plan_insertion(
+        &mut order,
+        &mut overs,
+        hashes,
+        w,
+        posts,
+        stops,
+        h,
+        h.rows as u32,
+        limit,
+    );
     if r.number != 0 {
         return Insertion::Refused(r.number);
     }

@@ -29,7 +29,7 @@ fn differ(a: u32, b: u32) -> usize
 // How many of the first n entries have a word f other than x.
 pub fn count_others(posts: &[u32], w: usize, n: usize, f: usize, x: u32) -> usize
     requires { ⌜ Within w n f (now posts) 0 ⌝ }
-    ensures { λ r. ⌜ r ≡ length (staying w n f (x ∷ []) (now (posts .entry))) ⌝ }
+    ensures { λ r. ⌜ (r ≡ length (staying w n f (x ∷ []) (now (posts .entry)))) × (r ≤ n) ⌝ }
 {
     let mut c = 0;
     let mut i = 0;

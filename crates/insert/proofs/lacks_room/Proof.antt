@@ -1,12 +1,10 @@
 -- `insert::lacks_room` meets its contract. Assumes nothing.
 use mathlib.Core.Path.{sym}
-use mathlib.Core.List.{[], _∷_}
 use Prim.Native.Nat.{_≤_}
 use native.Mathlib.Omega.{arith}
 use lib.ListN.{length}
 use borrow.Author.Needs.{needs}
 use Rattle.maps.proofs.Entries.{scale-le}
-use Rattle.postings.proofs.Compact.{staying-few}
 use Rattle.insert.proofs.Planning.{others-fit}
 use Rattle.insert.proofs.lacks_room.Statement.{statement}
 use Rattle.insert.proofs.lacks_room.Tie as tie
@@ -31,11 +29,10 @@ count-others-requires c κs = let s = c .before .before in record { field = omeg
 add-result : tie.Need-add-result
 add-result c =
     let s = c .before .before .before in
-    let a = s .args in
-    omega (arith, c .count-others .ensures, staying-few (a .w) (a .p) 1 (a .id ∷ []) (a .posts .now), few s, s .pre .2, s .good)
+    omega (arith, c .count-others .ensures .1, few s, s .pre .2, s .good)
 
 returns-2 : tie.Need-returns-2
-returns-2 c = rw (c .count-others .ensures)
+returns-2 c = rw (c .count-others .ensures .0)
 
 pub lacks-room-spec : {M : Type 1} → statement M
 lacks-room-spec =

@@ -1,11 +1,9 @@
 -- `insert::plan_insertion` meets its contract. Assumes nothing.
-use mathlib.Core.Path.{_≡_, sym, ap, _∙_}
-use mathlib.Core.Bool.{Bool, false, cond}
+use mathlib.Core.Path.{sym, _∙_}
 use Prim.Native.Nat.{_≤_}
 use native.Mathlib.Nat.{mul-div-le}
 use native.Mathlib.Omega.{arith}
 use lib.ListN.{length}
-use borrow.Author.Tests.{lt-ltb, le-ltb}
 use Rattle.insert.proofs.Planning.{few-new, by-key, planned-six, planned-found}
 use borrow.Author.Needs.{needs}
 use Rattle.insert.proofs.plan_insertion.Statement.{statement}
@@ -67,11 +65,14 @@ over-keys-requires c κs =
     let A = s co .pre .0 in
     ((by-key A (co .collect .ensures .0) (co .collect .last .0) (so .sort-words .last .0) (co .collect .ensures .1) (so .sort-words .ensures .0) (long so) (λ t. co .before .before .before .before .shared-slice-known .given t .fits), omega (arith, few co, s co .pre .1 .1)), (A .wide, A .held, A .ascend))
 
-add-if2 : tie.Need-add-if2
-add-if2 c =
+add-keys-refusal : tie.Need-add-keys-refusal
+add-keys-refusal c =
     let ov = c .before .before in
     let co = col (srt ov) in
     omega (arith, ov .over-keys .ensures .0, few co, s co .pre .0 .stopped, s co .good)
+
+keys-refusal-requires : tie.Need-keys-refusal-requires
+keys-refusal-requires c κs = search needs
 
 same-length-2 : tie.Need-same-length-2
 same-length-2 c = search needs
@@ -86,22 +87,7 @@ returns-2 c =
     let co = col so in
     planned-found (s co .pre .0) (co .collect .ensures .0) (co .collect .last .0) (so .sort-words .last .0) (co .collect .ensures .1) (so .sort-words .ensures .0) (long so)
     (s co .args .id) (ov .over-keys .last .0) (ov .over-keys .ensures .0) (omega (arith, ov .over-keys .kept .0, s co .pre .1 .1)) (ov .over-keys .ensures .1) (sym (so .before .before .before .lacks-room .ensures) ∙ so .before .before .if1 .left)
-    (sym (ap (λ (b : Bool). cond b 7 0) (lt-ltb _ _ (c .if2 .taken))))
-
-same-length-4 : tie.Need-same-length-4
-same-length-4 c = search needs
-
-same-length-5 : tie.Need-same-length-5
-same-length-5 c = search needs
-
-returns-3 : tie.Need-returns-3
-returns-3 c =
-    let ov = c .before .before .before in
-    let so = srt ov in
-    let co = col so in
-    planned-found (s co .pre .0) (co .collect .ensures .0) (co .collect .last .0) (so .sort-words .last .0) (co .collect .ensures .1) (so .sort-words .ensures .0) (long so)
-    (s co .args .id) (ov .over-keys .last .0) (ov .over-keys .ensures .0) (omega (arith, ov .over-keys .kept .0, s co .pre .1 .1)) (ov .over-keys .ensures .1) (sym (so .before .before .before .lacks-room .ensures) ∙ so .before .before .if1 .left)
-    (sym (ap (λ (b : Bool). cond b 7 0) (le-ltb _ _ (c .if2 .left))))
+    (c .keys-refusal .ensures)
 
 pub plan-insertion-spec : {M : Type 1} → statement M
 plan-insertion-spec =
@@ -115,10 +101,8 @@ plan-insertion-spec =
     returns
     sort-words-requires
     over-keys-requires
-    add-if2
+    add-keys-refusal
+    keys-refusal-requires
     same-length-2
     same-length-3
-    returns-2
-    same-length-4
-    same-length-5
-    returns-3)
+    returns-2)
