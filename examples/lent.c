@@ -1,5 +1,5 @@
 /* A store lent from C: an infants' list is stored under set 1 and a juniors' under set 2. Among all lists the infants' is found, among the juniors'
-   theirs. Prints the words of the answers in hexadecimal. */
+   theirs. Then the juniors' corrected take comes in place of theirs, under the same id and set. Prints the words of the answers in hexadecimal. */
 #include <inttypes.h>
 #include <stdint.h>
 #include <stdio.h>
@@ -7,6 +7,9 @@
 void wang_index_insert(uint32_t *refs, size_t refs_len, uint32_t *postings, size_t postings_len,
                        uint32_t *stopped, size_t stopped_len, const uint32_t *hashes, size_t hashes_len,
                        uint32_t rate, uint32_t limit, uint32_t set, uint64_t answer[8]);
+void wang_index_replace(uint32_t *refs, size_t refs_len, uint32_t *postings, size_t postings_len,
+                        uint32_t *stopped, size_t stopped_len, uint32_t id, const uint32_t *hashes, size_t hashes_len,
+                        uint32_t rate, uint32_t limit, uint64_t answer[8]);
 void wang_index_query(const uint32_t *refs, size_t refs_len, const uint32_t *postings, size_t postings_len,
                       const uint32_t *stopped, size_t stopped_len, int64_t *scratch, size_t scratch_len,
                       const uint32_t *hashes, size_t hashes_len, uint32_t rate, uint32_t tolerance,
@@ -29,6 +32,12 @@ static void store(const uint32_t *hashes, size_t words, uint32_t set) {
     show(answer);
 }
 
+static void swap(uint32_t id, const uint32_t *hashes, size_t words) {
+    uint64_t answer[8];
+    wang_index_replace(refs, 4 + 5 * R, postings, 3 * P, stopped, K, id, hashes, words, rate, 100, answer);
+    show(answer);
+}
+
 static void ask(const uint32_t *hashes, size_t words, uint32_t set) {
     uint64_t answer[8];
     wang_index_query(refs, 4 + 5 * R, postings, 3 * P, stopped, K, scratch, 6 * VOTES, hashes, words, rate, 0, 1,
@@ -37,10 +46,12 @@ static void ask(const uint32_t *hashes, size_t words, uint32_t set) {
 }
 
 int main(void) {
-    const uint32_t infants[] = {7, 4, 9, 6}, juniors[] = {7, 4}, heard[] = {7, 1, 9, 3};
+    const uint32_t infants[] = {7, 4, 9, 6}, juniors[] = {7, 4}, corrected[] = {7, 5, 9, 7}, heard[] = {7, 1, 9, 3};
     store(infants, 4, INFANTS);
     store(juniors, 2, JUNIORS);
     ask(heard, 4, ALL);
+    ask(heard, 4, JUNIORS);
+    swap(1, corrected, 4);
     ask(heard, 4, JUNIORS);
     return 0;
 }

@@ -1,7 +1,8 @@
 //! What a call on a lent store is to answer and to leave. The reference says
 //! what an accepted call does; what it doesn't know, which stores are sound
 //! and which calls are refused, is told here, in document 01's words and in
-//! those of document 02's first request, which is about sets.
+//! those of document 02's first two requests, which are about sets and about
+//! replacements.
 
 use crate::capi::{Answer, NAN_F32, Settings};
 use crate::harness::{answer, word32};
@@ -33,6 +34,12 @@ pub enum Call {
     },
     Remove {
         id: u32,
+    },
+    Replace {
+        id: u32,
+        hashes: Vec<u32>,
+        rate: u32,
+        limit: u32,
     },
     LiveCount,
     Query(Query),
@@ -260,6 +267,21 @@ impl<I: Index> Account<I> {
                 }
                 (removed(is_removed), kept)
             }
+            // "it answers and leaves what the removal and then the insertion
+            // would", and "keeps the id and set".
+            Call::Replace {
+                id,
+                hashes,
+                rate,
+                limit,
+            } => {
+                let fingerprint = I::fingerprint(hashes, *rate);
+                let index = self.index();
+                assert!(index.remove(*id as usize), "the recording is live");
+                let given = index.insert(&fingerprint, *limit);
+                assert_eq!(given, *id as usize, "it was vacated last");
+                (stored(*id), kept)
+            }
             Call::LiveCount | Call::Query(_) => unreachable!("it changes nothing"),
         }
     }
@@ -317,7 +339,7 @@ impl<I: Index> Account<I> {
     }
 
     /// The first refusal that applies, but for 7: document 01's table by its
-    /// numbers, and 9 "placed after 4".
+    /// numbers, and 9 and 10 "placed after 4".
     fn refusal(&self, call: &Call) -> Option<u64> {
         // "a store or scratch slice's length is none of those listed at the
         // end"
@@ -336,13 +358,14 @@ impl<I: Index> Account<I> {
             // "store unsound (not for build)"
             _ if !self.is_sound() => Some(2),
             Call::Insert { hashes, set, .. } => self.insert_refusal(sizes, hashes, *set),
+            Call::Replace { id, hashes, .. } => self.replace_refusal(sizes, *id, hashes),
             Call::Remove { .. } | Call::LiveCount => None,
         }
     }
 
     /// Of an insertion into a sound store.
     fn insert_refusal(&self, sizes: Sizes, hashes: &[u32], set: u32) -> Option<u64> {
-        if is_odd::<I>(hashes) || hashes.len() / I::HASH > HASHES {
+        if is_malformed::<I>(hashes) {
             return Some(3);
         }
         // "a set of 0 or above 255 on insert or build"
@@ -354,9 +377,28 @@ impl<I: Index> Account<I> {
         if v == 0 && n == sizes.rows {
             return Some(5);
         }
+        (p + self.unskipped(hashes) > sizes.postings).then_some(6)
+    }
+
+    /// Of a replacement in a sound store. "room (refusals 5 to 7) is judged
+    /// with the old take already removed": its row is then vacant, so there is
+    /// no 5.
+    fn replace_refusal(&self, sizes: Sizes, id: u32, hashes: &[u32]) -> Option<u64> {
+        if is_malformed::<I>(hashes) {
+            return Some(3);
+        }
+        // "It refuses with 10, placed after 4, an id that isn't live."
+        if !self.store.is_live(id) {
+            return Some(10);
+        }
+        let p = self.store.header()[2] as usize - self.store.held_by::<I>(id);
+        (p + self.unskipped(hashes) > sizes.postings).then_some(6)
+    }
+
+    /// "m being the hashes whose key isn't stopped"
+    pub fn unskipped(&self, hashes: &[u32]) -> usize {
         let keys = hashes.chunks_exact(I::HASH).map(|hash| hash[0]);
-        let m = keys.filter(|&key| !self.is_stopped(key)).count();
-        (p + m > sizes.postings).then_some(6)
+        keys.filter(|&key| !self.is_stopped(key)).count()
     }
 
     fn query_refusal(&self, query: &Query) -> Option<u64> {
@@ -385,6 +427,11 @@ impl<I: Index> Account<I> {
         // that set count against its scratch"
         (self.voters(query).count() > room).then_some(8)
     }
+}
+
+/// "fingerprint words no multiple of 2 (Wang) or 4 (Panako); too many hashes"
+fn is_malformed<I: Index>(words: &[u32]) -> bool {
+    is_odd::<I>(words) || words.len() / I::HASH > HASHES
 }
 
 /// "fingerprint words no multiple of 2 (Wang) or 4 (Panako)"

@@ -212,22 +212,51 @@ impl<'a> Source<'a> {
 
     /// Any call but a query.
     pub fn call<I: Index>(&self, rng: &mut Rng, store: &Store) -> Call {
-        let [n, _, p, _] = store.header();
+        let p = store.header()[2];
         match rng.below(16) {
             0 => Call::LiveCount,
-            1..5 => Call::Remove {
-                id: match rng.below(8) {
-                    0 => rng.pick(&[n, self.sizes.rows as u32, 4096, 1 << 31, u32::MAX]),
-                    _ => rng.below(u64::from(n) + 1) as u32,
-                },
+            1..4 => Call::Remove {
+                id: self.id(rng, store),
             },
-            5..7 => self.build::<I>(rng),
+            4..7 => self.replace::<I>(rng, store),
+            7..9 => self.build::<I>(rng),
             _ => self.insert::<I>(rng, p as usize),
+        }
+    }
+
+    /// An id that was given, or the next one; now and then one that can't be.
+    fn id(&self, rng: &mut Rng, store: &Store) -> u32 {
+        let n = store.header()[0];
+        match rng.below(8) {
+            0 => rng.pick(&[n, self.sizes.rows as u32, 4096, 1 << 31, u32::MAX]),
+            _ => rng.below(u64::from(n) + 1) as u32,
         }
     }
 
     /// An insertion into a store of `p` postings.
     pub fn insert<I: Index>(&self, rng: &mut Rng, p: usize) -> Call {
+        Call::Insert {
+            hashes: self.take::<I>(rng, p),
+            rate: self.rate(rng),
+            limit: self.limit(rng),
+            set: self.set(rng),
+        }
+    }
+
+    /// A replacement in this store.
+    pub fn replace<I: Index>(&self, rng: &mut Rng, store: &Store) -> Call {
+        let id = self.id(rng, store);
+        let p = store.header()[2] as usize;
+        Call::Replace {
+            id,
+            hashes: self.take::<I>(rng, p.saturating_sub(store.held_by::<I>(id))),
+            rate: self.rate(rng),
+            limit: self.limit(rng),
+        }
+    }
+
+    /// Hashes to be stored beside `p` postings, now and then not whole.
+    fn take<I: Index>(&self, rng: &mut Rng, p: usize) -> Vec<u32> {
         let room = self.sizes.postings.saturating_sub(p);
         let count = self.count(rng, room);
         let mut hashes = self.hashes::<I>(rng, count);
@@ -235,12 +264,7 @@ impl<'a> Source<'a> {
             let odd = 1 + rng.below(I::HASH as u64) as usize;
             hashes.truncate(hashes.len().saturating_sub(odd));
         }
-        Call::Insert {
-            hashes,
-            rate: self.rate(rng),
-            limit: self.limit(rng),
-            set: self.set(rng),
-        }
+        hashes
     }
 
     pub fn build<I: Index>(&self, rng: &mut Rng) -> Call {
@@ -343,7 +367,7 @@ fn small_stores<I: Index>(check: &mut Check) {
         };
         source.list::<I>(check, &mut met, 60);
     }
-    met.expect(&[2, 3, 5, 6, 7, 9]);
+    met.expect(&[2, 3, 5, 6, 7, 9, 10]);
 }
 
 /// Keys spread in many ways over 32 bits, and many hashes of one key.
@@ -412,7 +436,8 @@ fn spread_keys<I: Index>(check: &mut Check) {
     met.expect(&[7]);
 }
 
-/// A recording goes, and another comes, by this limit or another.
+/// A recording goes, and another comes, by this limit or another: in two calls
+/// or in one.
 fn stored_again<I: Index>(
     check: &mut Check,
     met: &mut Met,
@@ -420,17 +445,29 @@ fn stored_again<I: Index>(
     keys: &[u32],
     limit: u32,
 ) {
-    let refs = u64::from(trial.store().header()[0]);
-    let id = check.rng.below(refs.max(1)) as u32;
-    trial.call(check, met, Call::Remove { id });
     let rng = &mut check.rng;
+    let refs = u64::from(trial.store().header()[0]);
+    let id = rng.below(refs.max(1)) as u32;
     let count = rng.below(HASHES as u64 + 1) as usize;
+    let (hashes, rate) = (some_hashes::<I>(rng, count, keys), some_rate(rng));
+    let limit = rng.pick(&[limit, limit, 0, 1, 50]);
+    if rng.below(3) == 0 {
+        let replace = Call::Replace {
+            id,
+            hashes,
+            rate,
+            limit,
+        };
+        trial.call(check, met, replace);
+        return;
+    }
     let insert = Call::Insert {
-        hashes: some_hashes::<I>(rng, count, keys),
-        rate: some_rate(rng),
-        limit: rng.pick(&[limit, limit, 0, 1, 50]),
+        hashes,
+        rate,
+        limit,
         set: rng.pick(&SETS),
     };
+    trial.call(check, met, Call::Remove { id });
     trial.call(check, met, insert);
 }
 
@@ -503,7 +540,7 @@ fn at_lengths<I: Index>(check: &mut Check, met: &mut Met, lengths: [usize; 3]) {
         }
     }
     let mut trial = Trial::<I>::new(store);
-    let ways = 4 + u32::from(I::ENTRIES.query.is_some());
+    let ways = 5 + u32::from(I::ENTRIES.query.is_some());
     for way in 0..ways {
         let call = some_way::<I>(&mut check.rng, way);
         trial.call(check, met, call);
@@ -532,6 +569,12 @@ fn some_way<I: Index>(rng: &mut Rng, way: u32) -> Call {
             limit,
             sets: vec![set; rng.pick(&[1, 1, 0, 2])],
         },
+        4 => Call::Replace {
+            id: 0,
+            hashes,
+            rate,
+            limit,
+        },
         _ => Call::Query(Query {
             hashes,
             rate,
@@ -559,6 +602,15 @@ pub fn insert_in(hashes: Vec<u32>, limit: u32, set: u32) -> Call {
     }
 }
 
+pub fn replace(id: u32, hashes: Vec<u32>, limit: u32) -> Call {
+    Call::Replace {
+        id,
+        hashes,
+        rate: RATE,
+        limit,
+    }
+}
+
 /// One recording for each of `lengths`, all under set 1.
 pub fn build(hashes: Vec<u32>, lengths: Vec<u32>, limit: u32) -> Call {
     let sets = vec![1; lengths.len()];
@@ -576,7 +628,7 @@ pub fn build_in(hashes: Vec<u32>, lengths: Vec<u32>, limit: u32, sets: Vec<u32>)
 }
 
 /// A hash for each key.
-fn hashes_of<I: Index>(keys: impl IntoIterator<Item = u32>) -> Vec<u32> {
+pub fn hashes_of<I: Index>(keys: impl IntoIterator<Item = u32>) -> Vec<u32> {
     let hash = |key| (0..I::HASH as u32).map(move |word| if word == 0 { key } else { word });
     keys.into_iter().flat_map(hash).collect()
 }
@@ -626,8 +678,12 @@ fn all_postings<I: Index>(check: &mut Check, met: &mut Met) {
     let again = hashes[..I::HASH * HASHES].to_vec();
     let more = [&again[..], &one[..]].concat();
     trial.expect(check, met, insert(more, 100), refused(3));
-    trial.expect(check, met, insert(again, u32::MAX), stored(5));
+    trial.expect(check, met, insert(again.clone(), u32::MAX), stored(5));
     trial.expect(check, met, insert(one.clone(), 100), refused(6));
+    // So are they in place of others, as many as go.
+    trial.expect(check, met, replace(7, again, u32::MAX), stored(7));
+    let empty = replace(full as u32, one.clone(), 100);
+    trial.expect(check, met, empty, refused(6));
     trial.expect(check, met, Call::LiveCount, counted(full + 1));
     // One hash more, as one more recording.
     lengths.push(1);
@@ -646,6 +702,7 @@ fn all_stopped<I: Index>(check: &mut Check, met: &mut Met) {
     trial.expect(check, met, all, built());
     trial.expect(check, met, insert(keys(7, HASHES), 0), stored(8));
     trial.expect(check, met, insert(keys(8 * HASHES, 1), 0), refused(7));
+    trial.expect(check, met, replace(2, keys(8 * HASHES, 1), 0), refused(7));
     trial.expect(check, met, insert(keys(8 * HASHES, 1), 1), stored(9));
     let lengths = [&lengths[..], &[1]].concat();
     let too_many = build(keys(0, 8 * HASHES + 1), lengths.clone(), 0);
@@ -672,12 +729,17 @@ fn all_rows<I: Index>(check: &mut Check, met: &mut Met) {
     trial.expect(check, met, build(hashes, vec![2; rows], 100), built());
     let two = hashes_of::<I>([1, 501]);
     trial.expect(check, met, insert(two.clone(), 100), refused(5));
+    for id in [0, rows as u32 - 1] {
+        let call = replace(id, two.clone(), u32::MAX);
+        trial.expect(check, met, call, stored(id));
+    }
     let step = 1 + 2 * check.rng.below(rows as u64 / 2) as usize;
     let ids: Vec<u32> = (0..rows).map(|i| (i * step % rows) as u32).collect();
     let turns = check.times(300).end.min(rows as u64) as usize;
     for &id in &ids[..turns] {
         trial.expect(check, met, Call::Remove { id }, removed(true));
         trial.expect(check, met, Call::Remove { id }, removed(false));
+        trial.expect(check, met, replace(id, two.clone(), 100), refused(10));
     }
     for &id in ids[..turns].iter().rev() {
         trial.expect(check, met, insert(two.clone(), u32::MAX), stored(id));
@@ -836,6 +898,13 @@ impl Faults {
         insert_in(hashes, 0, self.set())
     }
 
+    /// A replacement of the first recording or of none, by five hashes or one.
+    fn replace<I: Index>(self) -> Call {
+        let keys = vec![60; if self.is(6) { 5 } else { 1 }];
+        let hashes = [hashes_of::<I>(keys), vec![0; self.is(3).into()]].concat();
+        replace(if self.is(10) { 2 } else { 0 }, hashes, 0)
+    }
+
     /// Three references or one, five hashes or two, of two keys or one.
     fn build<I: Index>(self) -> Call {
         let count = 2 + 3 * u32::from(self.is(6));
@@ -852,11 +921,12 @@ impl Faults {
 /// Faults of every choice in one call: the first number is returned.
 fn order_of_refusals<I: Index>(check: &mut Check) {
     let met = &mut Met::default();
-    for faults in (0..1 << 10).map(Faults) {
+    for faults in (0..1 << 11).map(Faults) {
         let store = faults.store::<I>(check, met);
         let rows = 1 + usize::from(faults.is(5));
         let calls = [
             (faults.insert::<I>(), &[1, 2, 3, 9, 5, 6, 7][..], stored(1)),
+            (faults.replace::<I>(), &[1, 2, 3, 10, 6, 7], stored(0)),
             (Call::Remove { id: 0 }, &[1, 2], removed(true)),
             (Call::LiveCount, &[1, 2], counted(rows)),
         ];
@@ -870,5 +940,5 @@ fn order_of_refusals<I: Index>(check: &mut Check) {
         };
         Trial::<I>::new(store).expect(check, met, faults.build::<I>(), known);
     }
-    met.expect(&[1, 2, 3, 5, 6, 7, 9]);
+    met.expect(&[1, 2, 3, 5, 6, 7, 9, 10]);
 }

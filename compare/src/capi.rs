@@ -151,57 +151,57 @@ pub struct Entries {
     /// Hashes, rate, limit, set.
     pub insert: fn(Lent<'_>, &[u32], u32, u32, u32) -> Answer,
     pub remove: fn(Lent<'_>, u32) -> Answer,
+    /// Id, hashes, rate, limit.
+    pub replace: fn(Lent<'_>, u32, &[u32], u32, u32) -> Answer,
     pub live_count: fn([&[u32]; 3]) -> Answer,
     /// None where the library has no such function yet.
     pub query: Option<Query>,
 }
 
+/// A call that may change the lent store: the C function of that name, which
+/// takes these words after the three slices.
+macro_rules! lent_to {
+    ($name:ident, $lent:ident, $($word:ident: $type:ty),*) => {{
+        unsafe extern "C" {
+            fn $name(
+                refs: *mut u32,
+                refs_len: usize,
+                postings: *mut u32,
+                postings_len: usize,
+                stopped: *mut u32,
+                stopped_len: usize,
+                $($word: $type,)*
+                answer: &mut Answer,
+            );
+        }
+        let [refs, postings, stopped] = $lent.map(|words| (words.as_mut_ptr(), words.len()));
+        answered(|answer| unsafe {
+            $name(
+                refs.0,
+                refs.1,
+                postings.0,
+                postings.1,
+                stopped.0,
+                stopped.1,
+                $($word,)*
+                answer,
+            );
+        })
+    }};
+}
+
 macro_rules! entries {
-    ($list:ident, $build:ident, $insert:ident, $remove:ident, $live_count:ident, $query:expr) => {
+    (
+        $list:ident,
+        $build:ident,
+        $insert:ident,
+        $remove:ident,
+        $replace:ident,
+        $live_count:ident,
+        $query:expr
+    ) => {
         pub const $list: Entries = {
             unsafe extern "C" {
-                fn $build(
-                    refs: *mut u32,
-                    refs_len: usize,
-                    postings: *mut u32,
-                    postings_len: usize,
-                    stopped: *mut u32,
-                    stopped_len: usize,
-                    hashes: *const u32,
-                    hashes_len: usize,
-                    lengths: *const u32,
-                    lengths_len: usize,
-                    rates: *const u32,
-                    rates_len: usize,
-                    limit: u32,
-                    sets: *const u32,
-                    sets_len: usize,
-                    answer: &mut Answer,
-                );
-                fn $insert(
-                    refs: *mut u32,
-                    refs_len: usize,
-                    postings: *mut u32,
-                    postings_len: usize,
-                    stopped: *mut u32,
-                    stopped_len: usize,
-                    hashes: *const u32,
-                    hashes_len: usize,
-                    rate: u32,
-                    limit: u32,
-                    set: u32,
-                    answer: &mut Answer,
-                );
-                fn $remove(
-                    refs: *mut u32,
-                    refs_len: usize,
-                    postings: *mut u32,
-                    postings_len: usize,
-                    stopped: *mut u32,
-                    stopped_len: usize,
-                    id: u32,
-                    answer: &mut Answer,
-                );
                 fn $live_count(
                     refs: *const u32,
                     refs_len: usize,
@@ -213,69 +213,49 @@ macro_rules! entries {
                 );
             }
             Entries {
-                build: |[r, p, s], hashes, lengths, rates, limit, sets| {
-                    let (hash_at, length_at, rate_at) =
-                        (hashes.as_ptr(), lengths.as_ptr(), rates.as_ptr());
-                    let (m, l, n) = (hashes.len(), lengths.len(), rates.len());
-                    answered(|answer| unsafe {
-                        let (refs, postings, stopped) =
-                            (r.as_mut_ptr(), p.as_mut_ptr(), s.as_mut_ptr());
-                        $build(
-                            refs,
-                            r.len(),
-                            postings,
-                            p.len(),
-                            stopped,
-                            s.len(),
-                            hash_at,
-                            m,
-                            length_at,
-                            l,
-                            rate_at,
-                            n,
-                            limit,
-                            sets.as_ptr(),
-                            sets.len(),
-                            answer,
-                        );
-                    })
+                build: |lent, hashes, lengths, rates, limit, sets| {
+                    let (hash_at, m) = (hashes.as_ptr(), hashes.len());
+                    let (length_at, l) = (lengths.as_ptr(), lengths.len());
+                    let (rate_at, n) = (rates.as_ptr(), rates.len());
+                    let (set_at, k) = (sets.as_ptr(), sets.len());
+                    lent_to!(
+                        $build,
+                        lent,
+                        hash_at: *const u32,
+                        m: usize,
+                        length_at: *const u32,
+                        l: usize,
+                        rate_at: *const u32,
+                        n: usize,
+                        limit: u32,
+                        set_at: *const u32,
+                        k: usize
+                    )
                 },
-                insert: |[r, p, s], hashes, rate, limit, set| {
-                    answered(|answer| unsafe {
-                        let (refs, postings, stopped) =
-                            (r.as_mut_ptr(), p.as_mut_ptr(), s.as_mut_ptr());
-                        let (hash_at, m) = (hashes.as_ptr(), hashes.len());
-                        $insert(
-                            refs,
-                            r.len(),
-                            postings,
-                            p.len(),
-                            stopped,
-                            s.len(),
-                            hash_at,
-                            m,
-                            rate,
-                            limit,
-                            set,
-                            answer,
-                        );
-                    })
+                insert: |lent, hashes, rate, limit, set| {
+                    let (at, m) = (hashes.as_ptr(), hashes.len());
+                    lent_to!(
+                        $insert,
+                        lent,
+                        at: *const u32,
+                        m: usize,
+                        rate: u32,
+                        limit: u32,
+                        set: u32
+                    )
                 },
-                remove: |[r, p, s], id| {
-                    answered(|answer| unsafe {
-                        let (refs, postings, stopped) =
-                            (r.as_mut_ptr(), p.as_mut_ptr(), s.as_mut_ptr());
-                        $remove(
-                            refs,
-                            r.len(),
-                            postings,
-                            p.len(),
-                            stopped,
-                            s.len(),
-                            id,
-                            answer,
-                        );
-                    })
+        remove: |lent, id| lent_to!($remove, lent, id: u32),
+                replace: |lent, id, hashes, rate, limit| {
+                    let (at, m) = (hashes.as_ptr(), hashes.len());
+                    lent_to!(
+                        $replace,
+                        lent,
+                        id: u32,
+                        at: *const u32,
+                        m: usize,
+                        rate: u32,
+                        limit: u32
+                    )
                 },
                 live_count: |[r, p, s]| {
                     answered(|answer| unsafe {
@@ -353,6 +333,7 @@ entries!(
     wang_index_build,
     wang_index_insert,
     wang_index_remove,
+    wang_index_replace,
     wang_index_live_count,
     Some(query_of!(wang_index_query))
 );
@@ -361,6 +342,7 @@ entries!(
     panako_index_build,
     panako_index_insert,
     panako_index_remove,
+    panako_index_replace,
     panako_index_live_count,
     PANAKO_QUERY
 );

@@ -2,7 +2,7 @@
 //! the account finds them unsound.
 
 use crate::account::{Call, Query};
-use crate::calls::{RATE, SETS, Source, some_hashes, some_store};
+use crate::calls::{RATE, SETS, Source, replace, some_hashes, some_store};
 use crate::harness::{Check, Rng, Run};
 use crate::queries::OPEN;
 use crate::store::{HEADER, Index, Panako, ROW, SET, Sizes, Store, Wang};
@@ -19,10 +19,11 @@ pub fn run(run: &mut Run) {
 
 const KEYS: [u32; 5] = [3, 5, 6, 9, u32::MAX];
 
-/// What was met by queries and by other calls.
+/// What was met by queries, by replacements and by other calls.
 #[derive(Default)]
 struct Seen {
     queries: Met,
+    replacements: Met,
     others: Met,
 }
 
@@ -59,6 +60,8 @@ impl Seen {
     fn end<I: Index>(&self, check: &mut Check) {
         let (others, queries) = (&self.others, &self.queries);
         assert!(others.cases[3] > 0 && others.refusals[2] > 0);
+        assert!(self.replacements.cases[1] > 0);
+        self.replacements.expect(&[2, 10]);
         if I::ENTRIES.query.is_some() {
             let [.., best, none, _, _] = queries.cases;
             let unsound = queries.refusals[2];
@@ -83,6 +86,12 @@ fn calls_on<I: Index>(check: &mut Check, seen: &mut Seen, store: &Store) {
     let set = rng.pick(&SETS);
     let calls = [
         Call::LiveCount,
+        Call::Replace {
+            id,
+            hashes: hashes.clone(),
+            rate,
+            limit,
+        },
         Call::Remove { id },
         Call::Insert {
             hashes: hashes.clone(),
@@ -100,7 +109,11 @@ fn calls_on<I: Index>(check: &mut Check, seen: &mut Seen, store: &Store) {
         },
     ];
     for call in calls {
-        trial.call(check, &mut seen.others, call);
+        let met = match call {
+            Call::Replace { .. } => &mut seen.replacements,
+            _ => &mut seen.others,
+        };
+        trial.call(check, met, call);
     }
 }
 
@@ -160,6 +173,9 @@ fn every_store<I: Index>(check: &mut Check, seen: &mut Seen, size: usize, lists:
                 seen.query(check, &mut trial, [others, &[0, 1]]);
             }
             calls_on::<I>(check, seen, &store);
+        } else if check.rng.below(8) == 0 {
+            let call = replace(0, vec![0; I::HASH], 100);
+            trial.call(check, &mut seen.replacements, call);
         }
         let Some(place) = (0..digits.len()).find(|&i| digits[i] + 1 < places[i].len()) else {
             return;

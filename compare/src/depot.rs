@@ -118,21 +118,24 @@ const LARGE: [Card; 2] = [
 
 pub fn run(only: Option<&str>) {
     calls(only);
+    replacements(only);
     queries(only);
 }
 
+/// The cards on which calls that change a store are measured.
+const CARDS: [Card; 7] = [
+    SCHOOL,
+    depot("75 × 3,000, 22 bits", 75, 22, 1 << 18),
+    depot("150 × 3,000, 22 bits", 150, 22, 1 << 19),
+    LARGE[0],
+    depot("75 × 3,000, 17 bits", 75, 17, 1 << 18),
+    depot("150 × 3,000, 17 bits", 150, 17, 1 << 19),
+    LARGE[1],
+];
+
 fn calls(only: Option<&str>) {
-    let cards = [
-        SCHOOL,
-        depot("75 × 3,000, 22 bits", 75, 22, 1 << 18),
-        depot("150 × 3,000, 22 bits", 150, 22, 1 << 19),
-        LARGE[0],
-        depot("75 × 3,000, 17 bits", 75, 17, 1 << 18),
-        depot("150 × 3,000, 17 bits", 150, 17, 1 << 19),
-        LARGE[1],
-    ];
     let mut rows = Vec::new();
-    for card in cards {
+    for card in CARDS {
         let asked = |index: &str| only.is_none_or(|only| index.contains(only));
         if asked("WangIndex") {
             rows.push(("WangIndex", card.name, measure::<Wang>(card)));
@@ -307,6 +310,141 @@ fn measure<I: Index>(card: Card) -> Times {
         });
     }
     same(&store, &index);
+    times
+}
+
+// ---- replacements
+
+fn replacements(only: Option<&str>) {
+    let asked = |index: &str| only.is_none_or(|only| index.contains(only));
+    let full = LARGE.map(|card| (card, card.lists * card.hashes));
+    let cards = CARDS.map(|card| (card, card.sizes.postings));
+    let mut rows = Vec::new();
+    for (card, postings) in cards.into_iter().chain(full) {
+        let card = Card {
+            sizes: Sizes {
+                postings,
+                ..card.sizes
+            },
+            ..card
+        };
+        if asked("WangIndex::replace") {
+            rows.push(("WangIndex", card, swapped::<Wang>(card)));
+        }
+        if asked("PanakoIndex::replace") {
+            rows.push(("PanakoIndex", card, swapped::<Panako>(card)));
+        }
+    }
+    if rows.is_empty() {
+        return;
+    }
+    println!();
+    println!(
+        "| replacement | lists | ours, µs | scan, µs | rest, µs | rests of `remove` and `insert`, µs \
+         | rest / rests | Rust's `remove` and `insert`, µs | ours / Rust |"
+    );
+    println!("|---|---|---|---|---|---|---|---|---|");
+    for (index, card, times) in rows {
+        let full = match card.sizes.postings == card.lists * card.hashes {
+            true => ", store full",
+            false => "",
+        };
+        println!("| `{index}::replace` | {}{full} | {times} |", card.name);
+    }
+}
+
+/// Nanoseconds a recording, the least of all turns: the scan; a replacement; a
+/// removal with an insertion, ours and the Rust's.
+struct Swapped {
+    scan: f64,
+    one: f64,
+    two: f64,
+    rust: f64,
+}
+
+impl std::fmt::Display for Swapped {
+    fn fmt(&self, f: &mut std::fmt::Formatter<'_>) -> std::fmt::Result {
+        let Self {
+            scan,
+            one,
+            two,
+            rust,
+        } = *self;
+        let (rest, rests) = (one - scan, two - 2.0 * scan);
+        let [ours, scan, told, both, reference] = [one, scan, rest, rests, rust].map(micros);
+        write!(
+            f,
+            "{ours} | {scan} | {told} | {both} | {:.2} | {reference} | {:.2}",
+            rest / rests,
+            one / rust
+        )
+    }
+}
+
+/// Recordings go, each for a take of the same size: in two calls, then in one.
+fn swapped<I: Index>(card: Card) -> Swapped {
+    let rng = &mut Rng(1);
+    let lists: Vec<Vec<u32>> = (0..card.lists).map(|_| list::<I>(rng, card)).collect();
+    let Sides {
+        mut index,
+        mut store,
+        ..
+    } = Sides::<I>::of(&lists, card.sizes, 0);
+    let entries = I::ENTRIES;
+    let least = f64::INFINITY;
+    let mut times = Swapped {
+        scan: least,
+        one: least,
+        two: least,
+        rust: least,
+    };
+    for turn in 0..2 * card.turns {
+        let first = rng.below(card.lists as u64) as usize;
+        let takes: Vec<(usize, Vec<u32>)> = (0..card.batch)
+            .map(|i| ((first + 7 * i) % card.lists, list::<I>(rng, card)))
+            .collect();
+        // The first scan finds other words in the caches than those that follow.
+        black_box((entries.live_count)(store.slices()));
+        timed(&mut times.scan, card.batch, || {
+            takes.iter().fold(counted(0), |_, _| {
+                (entries.live_count)(black_box(store.slices()))
+            })
+        });
+        if turn % 2 == 0 {
+            timed(&mut times.two, card.batch, || {
+                for (id, take) in &takes {
+                    let id = *id as u32;
+                    assert_eq!((entries.remove)(store.lend(), id), removed(true));
+                    let set = set_of(id as usize);
+                    let answer = (entries.insert)(store.lend(), take, RATE, LIMIT, set);
+                    assert_eq!(answer, stored(id));
+                }
+            });
+        } else {
+            timed(&mut times.one, card.batch, || {
+                for (id, take) in &takes {
+                    let id = *id as u32;
+                    let answer = (entries.replace)(store.lend(), id, take, RATE, LIMIT);
+                    assert_eq!(answer, stored(id));
+                }
+            });
+        }
+        let takes = takes.iter();
+        let takes: Vec<_> = takes
+            .map(|(id, take)| (*id, I::fingerprint(take, RATE)))
+            .collect();
+        timed(&mut times.rust, card.batch, || {
+            for (id, take) in &takes {
+                assert!(index.remove(*id));
+                assert_eq!(index.insert(take, LIMIT), *id);
+            }
+        });
+    }
+    let sets: Vec<u32> = (0..card.lists).map(set_of).collect();
+    assert!(
+        store == write::<I>(&index.content(), &sets, card.sizes),
+        "both sides hold the same"
+    );
     times
 }
 

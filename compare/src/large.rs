@@ -2,7 +2,7 @@
 //! for one recording, what lies around a peak.
 
 use crate::account::{Call, HASHES, VOTES, built, refused, removed, stored};
-use crate::calls::{build, insert};
+use crate::calls::{build, insert, replace};
 use crate::capi::Answer;
 use crate::harness::{Check, Rng, Run, answer, word32};
 use crate::hough::Hough;
@@ -164,6 +164,10 @@ fn inserted_alone<I: Asked>(check: &mut Check, met: &mut Met) {
     let rest: usize = PARTS.map(others).iter().sum();
     has(check, &trial, 65_536 + rest, 0);
     heard(check, met, &mut trial, 15);
+    // In place of as many.
+    let take = long_list::<I>(&mut check.rng, PARTS[3]);
+    trial.expect(check, met, replace(3, take, 65_536), stored(3));
+    has(check, &trial, 65_536 + rest, 0);
     trial.expect(check, met, Call::Remove { id: 3 }, removed(true));
     heard(check, met, &mut trial, 1);
     let more = long_list::<I>(&mut check.rng, 8001);
@@ -187,6 +191,9 @@ fn one_key<I: Asked>(check: &mut Check) {
     let one = anchored::<I>(LONG, [3]);
     let call = ask::<I>(&mut check.rng, one.clone(), 1, 1, VOTES);
     trial.expect(check, met, call, refused(8));
+    let take = replace(61, part.clone(), limit);
+    trial.expect(check, met, take, stored(61));
+    has(check, &trial, most, 0);
     trial.expect(check, met, Call::Remove { id: 60 }, removed(true));
     trial.expect(check, met, insert(part, limit - 1), stored(60));
     has(check, &trial, 0, 1);

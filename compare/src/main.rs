@@ -26,6 +26,7 @@ mod large;
 mod matching;
 mod panako;
 mod queries;
+mod replace;
 mod replay;
 mod sets;
 mod sheet;
@@ -99,6 +100,7 @@ fn main() {
     damage::run(&mut run);
     queries::run(&mut run);
     sets::run(&mut run);
+    replace::run(&mut run);
     large::run(&mut run);
     sheet::run(&mut run);
     faults::run(&mut run);

@@ -314,16 +314,19 @@ pub fn some_other<I: Index>(
     call
 }
 
-/// Puts what a call stores among the recordings heard. An insertion may turn
-/// into that of a recording that stands there already, or stood.
+/// Puts what a call stores among the recordings heard. An insertion or a
+/// replacement may turn into that of a recording that stands there already, or
+/// stood.
 pub fn hear(rng: &mut Rng, heard: &mut Vec<Vec<u32>>, call: &mut Call) {
-    if let Call::Insert { hashes, .. } = call
+    if let Call::Insert { hashes, .. } | Call::Replace { hashes, .. } = call
         && !heard.is_empty()
         && rng.below(4) == 0
     {
         *hashes = heard[rng.below(heard.len() as u64) as usize].clone();
     }
-    if let Call::Insert { hashes, .. } | Call::Build { hashes, .. } = call {
+    if let Call::Insert { hashes, .. } | Call::Replace { hashes, .. } | Call::Build { hashes, .. } =
+        call
+    {
         heard.push(hashes.clone());
     }
 }
@@ -371,7 +374,7 @@ fn histories<I: Asked>(check: &mut Check) {
         history::<I>(check, &source, &mut others, &mut tally, calls);
     }
     tally.end(check, &[1, 2, 3, 4, 8, 9]);
-    others.expect(&[2, 3, 5, 6, 7, 9]);
+    others.expect(&[2, 3, 5, 6, 7, 9, 10]);
 }
 
 /// More recordings, keys and hashes than a card's, up to the highest ids.

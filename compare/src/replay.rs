@@ -3,7 +3,7 @@
 //! tells of its lines.
 
 use crate::account::{Account, Call, QUERY_HASHES, Query};
-use crate::calls::{Source, build, insert};
+use crate::calls::{Source, build, insert, replace};
 use crate::capi::Answer;
 use crate::damage;
 use crate::harness::{Check, Rng, Run};
@@ -98,6 +98,12 @@ impl List {
                 set,
             } => self.line('I', &[&[*limit, *rate, *set], &hashes[..]].concat()),
             Call::Remove { id } => self.line('D', &[*id]),
+            Call::Replace {
+                id,
+                hashes,
+                rate,
+                limit,
+            } => self.line('S', &[&[*id, *limit, *rate], &hashes[..]].concat()),
             Call::LiveCount => self.line('C', &[]),
             Call::Query(query) => self.line('Q', &query_words(query)),
         }
@@ -183,7 +189,7 @@ fn groups<I: Asked>(rng: &mut Rng, list: &mut List) {
         };
         group::<I>(rng, list, met, &source, if larger { 16 } else { 9 });
     }
-    met.expect(&[1, 2, 3, 4, 5, 6, 7, 8, 9]);
+    met.expect(&[1, 2, 3, 4, 5, 6, 7, 8, 9, 10]);
     assert!(
         met.cases[..7].iter().all(|&count| count > 0),
         "{:?}",
@@ -219,6 +225,7 @@ fn fullest<I: Asked>(list: &mut List) {
             ..query(hashes(count, 1), 1)
         })
     };
+    let swap = |count: usize| replace(5, hashes(count, 1), MOST as u32);
     let votes = SCRATCH / I::VOTE;
     let many = vec![ONE as u32; MOST / ONE];
     let full = build(hashes(MOST, 8), many, MOST as u32);
@@ -227,6 +234,9 @@ fn fullest<I: Asked>(list: &mut List) {
         (full, 0),
         (heard(few, 0), 4),
         (heard(few, 1), 6),
+        (swap(ONE + 1), 6),
+        (swap(ONE), 1),
+        (heard(few, 0), 4),
         (Call::Remove { id: 3 }, 2),
         (insertion(MOST - 1), 1),
         (heard(few, 0), 5),

@@ -2,7 +2,7 @@
 //! queries that the recordings of one set answer.
 
 use crate::account::{Call, Query, built, counted, refused, removed, stored};
-use crate::calls::{NO_SETS, SETS, Source, build_in, insert_in, some_store};
+use crate::calls::{NO_SETS, SETS, Source, build_in, insert_in, replace, some_store};
 use crate::capi::Answer;
 use crate::consolidate::digits;
 use crate::fill::Kept;
@@ -193,6 +193,7 @@ fn on_damaged<I: Asked>(check: &mut Check, met: &mut Met, store: Store, known: A
     for call in [
         Call::Remove { id: 0 },
         insert_in(hashes(), 100, 1),
+        replace(0, hashes(), 100),
         ask::<I>(hashes(), 0, 8),
         ask::<I>(hashes(), 1, 8),
         ask::<I>(hashes(), 256, 8),

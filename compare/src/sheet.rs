@@ -2,7 +2,7 @@
 //! through a sheet written here over the unchanged index.
 
 use crate::account::{Account, Call, Query};
-use crate::calls::{Source, insert};
+use crate::calls::{Source, insert, replace};
 use crate::capi::{Answer, Settings, sheet_card_sheet_of};
 use crate::harness::{Check, Rng, Run};
 use crate::queries::{self, OPEN, hear, some_query, some_rates, some_times};
@@ -102,6 +102,13 @@ fn call_of(kind: u8, fields: &[u32]) -> Option<Call> {
             scratch: SCRATCH,
             fill: 0,
         }),
+        // "kind 04 (id, limit, rate bits, hashes)"
+        (4, &[id, limit, rate, ref hashes @ ..]) => Call::Replace {
+            id,
+            hashes: hashes.to_vec(),
+            rate,
+            limit,
+        },
         _ => return None,
     };
     Some(call)
@@ -144,6 +151,12 @@ fn record(call: &Call) -> Vec<u8> {
             let fixed = [tolerance, min_votes, min_score, min_prominence, query.rate];
             (3, [&fixed, &query.hashes[..]].concat())
         }
+        Call::Replace {
+            id,
+            hashes,
+            rate,
+            limit,
+        } => (4, [&[*id, *limit, *rate], &hashes[..]].concat()),
         _ => unreachable!("a card has no such call"),
     };
     let length = 1 + 4 * fields.len() as u32;
@@ -297,7 +310,7 @@ fn example_cards(check: &mut Check) {
         });
     }
     let expected = [
-        "A", "D", "E", "I", "N", "R 3", "R 4", "R 5", "R 6", "R 7", "R 8", "X", "end",
+        "A", "D", "E", "I", "N", "R 3", "R 4", "R 5", "R 6", "R 7", "R 8", "R 10", "X", "end",
     ];
     lines.end(check, &expected);
 }
@@ -313,37 +326,54 @@ fn most_hashes(fixed: usize) -> usize {
 struct Kind<'a> {
     source: Source<'a>,
     records: u64,
-    /// Of 16 calls that are no queries, so many remove.
+    /// Of 16 calls that are no queries, so many remove, and as many replace.
     removals: u64,
 }
 
 impl Kind<'_> {
     fn insert(&self, rng: &mut Rng, account: &Account<Wang>) -> Call {
         let room = SIZES.postings - account.store.header()[2] as usize;
-        let count = match rng.below(64) {
-            0 => room,
-            1 => room + 1,
-            _ => rng.below(self.source.most + 1) as usize,
-        };
-        let mut hashes = self.source.hashes::<Wang>(rng, count.min(most_hashes(2)));
-        if rng.below(32) == 0 {
-            hashes.push(7);
-        }
         Call::Insert {
-            hashes,
+            hashes: self.take(rng, room, 2),
             rate: self.source.rate(rng),
             limit: self.source.limit(rng),
             set: 1,
         }
     }
 
-    fn remove(&self, rng: &mut Rng, account: &Account<Wang>) -> Call {
+    /// In place of one that goes.
+    fn replace(&self, rng: &mut Rng, account: &Account<Wang>) -> Call {
+        let (id, store) = (self.id(rng, account), &account.store);
+        let room = SIZES.postings - store.header()[2] as usize + store.held_by::<Wang>(id);
+        Call::Replace {
+            id,
+            hashes: self.take(rng, room, 3),
+            rate: self.source.rate(rng),
+            limit: self.source.limit(rng),
+        }
+    }
+
+    /// Hashes for so much room, behind so many fixed fields; now and then one
+    /// is half.
+    fn take(&self, rng: &mut Rng, room: usize, fixed: usize) -> Vec<u32> {
+        let count = match rng.below(64) {
+            0 => room,
+            1 => room + 1,
+            _ => rng.below(self.source.most + 1) as usize,
+        };
+        let count = count.min(most_hashes(fixed));
+        let mut hashes = self.source.hashes::<Wang>(rng, count);
+        if rng.below(32) == 0 {
+            hashes.truncate((2 * count).saturating_sub(1));
+        }
+        hashes
+    }
+
+    fn id(&self, rng: &mut Rng, account: &Account<Wang>) -> u32 {
         let n = u64::from(account.store.header()[0]);
-        Call::Remove {
-            id: match rng.below(16) {
-                0 => rng.pick(&[31, 32, 33, u32::MAX]),
-                _ => rng.below(n + 1) as u32,
-            },
+        match rng.below(16) {
+            0 => rng.pick(&[31, 32, 33, u32::MAX]),
+            _ => rng.below(n + 1) as u32,
         }
     }
 
@@ -359,9 +389,12 @@ impl Kind<'_> {
         let mut heard: Vec<Vec<u32>> = Vec::new();
         let mut calls = Vec::new();
         for turn in 0..self.records {
-            let mut call = match rng.below(2) {
-                0 if turn > 1 => self.query(rng, &account, &heard),
-                _ if rng.below(16) < self.removals => self.remove(rng, &account),
+            let mut call = match (rng.below(2), rng.below(16)) {
+                (0, _) if turn > 1 => self.query(rng, &account, &heard),
+                (_, which) if which < self.removals => Call::Remove {
+                    id: self.id(rng, &account),
+                },
+                (_, which) if which < 2 * self.removals => self.replace(rng, &account),
                 _ => self.insert(rng, &account),
             };
             hear(rng, &mut heard, &mut call);
@@ -419,7 +452,7 @@ fn random_cards(check: &mut Check) {
         lines.compare(check, &program, &card);
     }
     let expected = [
-        "A", "D", "E", "I", "N", "R 3", "R 4", "R 5", "R 6", "R 7", "R 8", "end",
+        "A", "D", "E", "I", "N", "R 3", "R 4", "R 5", "R 6", "R 7", "R 8", "R 10", "end",
     ];
     lines.end(check, &expected);
 }
@@ -446,7 +479,10 @@ fn cards_at_the_ends(check: &mut Check) {
     let (program, mut lines) = (program("sheet"), Lines::default());
     let rows: Vec<Call> = (0..34).map(|i| insert(ascending(i, 2, 1), 100)).collect();
     let freed = [
+        replace(31, ascending(0, 2, 1), 100),
         Call::Remove { id: 9 },
+        replace(9, ascending(0, 2, 1), 100),
+        replace(32, ascending(0, 2, 1), 100),
         insert(Vec::new(), 0),
         insert(Vec::new(), 0),
     ];
@@ -457,6 +493,21 @@ fn cards_at_the_ends(check: &mut Check) {
             insert(ascending(5000, 23 + more, 1), 100),
             insert(Vec::new(), 100),
             query(ascending(0, 1000, 1), 0),
+        ]);
+        // Room is what the old take leaves.
+        cards.push(vec![
+            insert(ascending(0, 1000, 1), 100),
+            insert(ascending(5000, 24, 1), 100),
+            replace(1, ascending(6000, 23 + more, 1), 100),
+            query(ascending(5000, 24, 1), 0),
+            query(ascending(6000, 24, 1), 0),
+            replace(0, ascending(7000, 998 + more, 1), 100),
+        ]);
+        cards.push(vec![
+            insert(ascending(0, 255, 1), 0),
+            insert(ascending(300, 2, 1), 100),
+            replace(1, ascending(400, more, 1), 0),
+            query(ascending(300, 2, 1), 0),
         ]);
         cards.push(vec![
             insert(ascending(0, 255 + more, 1), 0),
@@ -480,6 +531,9 @@ fn cards_at_the_ends(check: &mut Check) {
     cards.push(vec![
         insert(odd.clone(), 100),
         query(odd[..2041].to_vec(), 0),
+        insert(Vec::new(), 100),
+        replace(0, odd[..2043].to_vec(), 100),
+        replace(0, odd[..2044].to_vec(), 100),
     ]);
     for calls in cards {
         lines.compare(check, &program, &card(&calls));
@@ -487,7 +541,7 @@ fn cards_at_the_ends(check: &mut Check) {
     lines.end(
         check,
         &[
-            "A", "D", "I", "R 3", "R 4", "R 5", "R 6", "R 7", "R 8", "end",
+            "A", "D", "I", "N", "R 3", "R 4", "R 5", "R 6", "R 7", "R 8", "R 10", "end",
         ],
     );
 }
@@ -536,7 +590,7 @@ fn faulty_cards(check: &mut Check) {
         lines.compare(check, &program, &[version]);
     }
     // Every length of a record of each kind, whole or cut, up to a query's.
-    for kind in 0..=4 {
+    for kind in 0..=5 {
         for length in 0..=26_u32 {
             let body = [kind].into_iter().chain([0; 29]);
             let card: Vec<u8> = [1]
@@ -553,7 +607,7 @@ fn faulty_cards(check: &mut Check) {
         damage(&mut check.rng, &mut card);
         lines.compare(check, &program, &card);
     }
-    lines.end(check, &["A", "D", "I", "N", "X", "end"]);
+    lines.end(check, &["A", "D", "I", "N", "R 3", "R 10", "X", "end"]);
 }
 
 // ---- long cards

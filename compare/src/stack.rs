@@ -38,9 +38,19 @@ fn depth<T>(call: impl FnOnce() -> T) -> usize {
     PAINTED - 8 * kept.count()
 }
 
-/// The most that each of the five entries used on calls that go deep:
-/// accepted ones on a store in use, keys stopped, all hashes allowed.
-fn measure<I: Index>(seed: u64) -> [usize; 5] {
+/// The entries that are measured.
+const ENTRIES: [&str; 6] = [
+    "build",
+    "insert",
+    "remove",
+    "live_count",
+    "query",
+    "replace",
+];
+
+/// The most that each of the entries used on calls that go deep: accepted ones
+/// on a store in use, keys stopped, all hashes allowed.
+fn measure<I: Index>(seed: u64) -> [usize; ENTRIES.len()] {
     let rng = &mut Rng(seed);
     let sizes = Sizes::new(64, 1 << 15, 1 << 13);
     let mut store = Store::zeroed::<I>(sizes);
@@ -48,7 +58,7 @@ fn measure<I: Index>(seed: u64) -> [usize; 5] {
     let settings = I::settings(&I::Config::default());
     let entries = I::ENTRIES;
     let query = entries.query.expect("the library has this query");
-    let mut most = [0; 5];
+    let mut most = [0; ENTRIES.len()];
     let mut hashes = |count: usize, bits: u32| -> Vec<u32> {
         let hash = |i: usize| {
             let anchor = i as u32 + rng.below(3) as u32;
@@ -87,6 +97,11 @@ fn measure<I: Index>(seed: u64) -> [usize; 5] {
             let ask = || accepted(query(slices, &mut scratch, &heard, RATE, &settings, set));
             keep(4, depth(ask));
         }
+        let take = hashes(8192, 14);
+        keep(
+            5,
+            depth(|| accepted((entries.replace)(store.lend(), 3, &take, RATE, 4))),
+        );
         keep(3, depth(|| accepted((entries.live_count)(store.slices()))));
         keep(2, depth(|| accepted((entries.remove)(store.lend(), 1))));
     }
@@ -101,10 +116,7 @@ fn measured<I: Index>(check: &mut Check) {
         .expect("a thread can be had");
     let most = thread.join().expect("the calls are accepted");
     let mut notes = Vec::new();
-    for (name, bytes) in ["build", "insert", "remove", "live_count", "query"]
-        .into_iter()
-        .zip(most)
-    {
+    for (name, bytes) in ENTRIES.into_iter().zip(most) {
         check.holds(bytes < MOST, || format!("{name} used {bytes} bytes"));
         notes.push(format!("{name} {bytes}"));
     }

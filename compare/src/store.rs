@@ -88,6 +88,19 @@ impl Store {
         self.rows().take(n).map(|row| row[SET]).collect()
     }
 
+    /// Whether a recording of this id is live.
+    pub fn is_live(&self, id: u32) -> bool {
+        let row = self.rows().nth(id as usize);
+        row.is_some_and(|row| row[2] == 1)
+    }
+
+    /// How many postings are this recording's.
+    pub fn held_by<I: Index>(&self, id: u32) -> usize {
+        let p = self.header()[2] as usize;
+        let postings = self.postings.chunks_exact(I::WIDTH).take(p);
+        postings.filter(|posting| posting[1] == id).count()
+    }
+
     pub fn slices(&self) -> [&[u32]; 3] {
         [&self.refs, &self.postings, &self.stopped]
     }

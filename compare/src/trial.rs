@@ -103,7 +103,7 @@ fn is_refused(answer: &Answer) -> bool {
 #[derive(Default)]
 pub struct Met {
     pub cases: [u64; 8],
-    pub refusals: [u64; 10],
+    pub refusals: [u64; 11],
 }
 
 impl Met {
@@ -203,6 +203,12 @@ impl<I: Index> Trial<I> {
                 set,
             } => (entries.insert)(lent, hashes, *rate, *limit, *set),
             Call::Remove { id } => (entries.remove)(lent, *id),
+            Call::Replace {
+                id,
+                hashes,
+                rate,
+                limit,
+            } => (entries.replace)(lent, *id, hashes, *rate, *limit),
             Call::LiveCount => (entries.live_count)(lent.map(|words| &*words)),
             Call::Query(query) => {
                 let entry = entries.query.expect("the library has this query");
@@ -324,6 +330,15 @@ fn told(call: &Call) -> String {
             shown(hashes)
         ),
         Call::Remove { id } => format!("remove: id {id}"),
+        Call::Replace {
+            id,
+            hashes,
+            rate,
+            limit,
+        } => format!(
+            "replace: id {id}; hashes {}; rate {rate:X}; limit {limit}",
+            shown(hashes)
+        ),
         Call::LiveCount => String::from("live_count"),
         Call::Query(query) => format!(
             "query: hashes {}; rate {:X}; {:X?}; set {}; scratch of {} words, filled from {:X}",

@@ -2,7 +2,7 @@
 // the store and a query's scratch at exit, are what `run` says of the call.
 ghost use mathlib.Core.Path.{_≡_};
 ghost use lib.ListN.{length};
-ghost use Rattle.model.specs.Calls.{build, insert, remove, liveCount, query};
+ghost use Rattle.model.specs.Calls.{build, insert, remove, replace, liveCount, query};
 ghost use Rattle.model.specs.Run.{run};
 ghost use Rattle.soundness.specs.Scan.{lent};
 ghost use Rattle.build.specs.Answers.{buildingAnswer};
@@ -174,6 +174,26 @@ pub extern "C" fn wang_index_remove(
 }
 
 #[no_mangle]
+pub extern "C" fn wang_index_replace(
+    refs: &mut [u32],
+    postings: &mut [u32],
+    stopped: &mut [u32],
+    id: u32,
+    hashes: &[u32],
+    rate: u32,
+    limit: u32,
+    answer: &mut [u64; 8],
+)
+    ensures { λ _. ⌜ (now (answer .exit), lent (refs .exit) (postings .exit) (stopped .exit))
+        ≡ inWords (run wang (lent (refs .entry) (postings .entry) (stopped .entry)) (replace id limit rate (now (hashes .entry)))) ⌝ }
+{
+    put_insertion(
+        answer,
+        WangIndex::replace(refs, postings, stopped, id, hashes, rate, limit),
+    );
+}
+
+#[no_mangle]
 pub extern "C" fn wang_index_live_count(
     refs: &[u32],
     postings: &[u32],
@@ -267,6 +287,26 @@ pub extern "C" fn panako_index_remove(
         ≡ inWords (run panako (lent (refs .entry) (postings .entry) (stopped .entry)) (remove id)) ⌝ }
 {
     put_removal(answer, PanakoIndex::remove(refs, postings, stopped, id));
+}
+
+#[no_mangle]
+pub extern "C" fn panako_index_replace(
+    refs: &mut [u32],
+    postings: &mut [u32],
+    stopped: &mut [u32],
+    id: u32,
+    hashes: &[u32],
+    rate: u32,
+    limit: u32,
+    answer: &mut [u64; 8],
+)
+    ensures { λ _. ⌜ (now (answer .exit), lent (refs .exit) (postings .exit) (stopped .exit))
+        ≡ inWords (run panako (lent (refs .entry) (postings .entry) (stopped .entry)) (replace id limit rate (now (hashes .entry)))) ⌝ }
+{
+    put_insertion(
+        answer,
+        PanakoIndex::replace(refs, postings, stopped, id, hashes, rate, limit),
+    );
 }
 
 #[no_mangle]

@@ -1,6 +1,6 @@
 -- The claim, of either index: of the calls on words. Assumes nothing.
 use mathlib.Core.Path.{_≡_, refl, sym, ap, _∙_, subst, transport}
-use mathlib.Core.List.{List, [], _∷_, _++_}
+use mathlib.Core.List.{List, [], _∷_}
 use Prim.Native.Nat.{_≤_}
 use Rattle.model.specs.Query.{Scheme, Catalog}
 use Rattle.model.specs.Calls.{Sizes, Answer, Call, query, step}
@@ -44,8 +44,7 @@ module _ (S : Scheme) {T U : Type 0} (run : T → Call S → Answer × T) (model
 
     pub demand3-of : (c : Catalog) (t : T) → Good t → (calls : List (Call S)) → Demand3 S model c (read t) calls → Demand3 S run c t calls
     demand3-of c t g calls D before x rest e = transport
-        (λ i. ClaimedAt S (λ q. sym (answer-same t g before (query q)) i) (λ q. sym (answer-same t g (before ++ x ∷ []) (query q)) i)
-        (sym (history-same c t g before) i) (sym (history-same c t g (before ++ x ∷ [])) i) (sym (answer-same t g before x) i) x)
+        (λ i. ClaimedAt S (λ xs. record { reply = λ q. sym (answer-same t g xs (query q)) i; known = sym (history-same c t g xs) i }) before (sym (answer-same t g before x) i) x)
         (D before x rest e)
 
     pub from-history-of : (c : Catalog) (t : T) → Good t → FromHistory S model c (read t) → FromHistory S run c t

@@ -19,3 +19,4 @@ pub mod Loading
 pub mod Vacant
 pub mod Alike
 pub mod Sets
+pub mod Replacement

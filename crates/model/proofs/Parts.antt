@@ -3,18 +3,18 @@ use mathlib.Core.Path.{_≡_, refl, sym, ap, _∙_}
 use mathlib.Core.Bool.{Bool, true, false, cond, _&&_, _||_}
 use mathlib.Core.List.{List, [], _∷_, _++_}
 use mathlib.Core.Option.{Option, none, some}
-use Prim.Native.Nat.{ℕ, zero, suc, _+_, _≤_, _<_, max}
+use Prim.Native.Nat.{ℕ, zero, suc, _+_, _-_, _≤_, _<_, max}
 use native.Mathlib.Omega.{arith}
 use lib.ListN.{length, getD, set, length-append, length-set, List·getD-append, List·getD-eq-default}
 use lib.Seq.{getD-append-seam, getD-set-same, getD-set-other}
 use lib.Dec.{eqb, ltb}
-use borrow.Author.Tests.{ltb-true, ltb-false, eqb-true, eqb-false, eq-eqb}
+use borrow.Author.Tests.{ltb-true, ltb-false, eqb-true, eqb-false, eq-eqb, ne-eqb}
 use Rattle.lists.specs.Lists.{keep, some?, member, insertKey, All}
 use Rattle.lists.specs.Keys.{under, hasKey, Ascending}
 use Rattle.lists.proofs.Tests.{test, not-both}
 use Rattle.lists.proofs.Ascending.{member-insertKey, ascending-insertKey}
 use Rattle.model.specs.Rows.{Row}
-use Rattle.model.specs.Index.{Posting, keyOf, withoutKeys, stopKeys, putRow, isLive}
+use Rattle.model.specs.Index.{Posting, Index, keyOf, withoutKeys, stopKeys, newId, putRow, isLive, erased}
 use Rattle.model.specs.Sound.{isDead}
 
 -- ---- stopped keys
@@ -109,3 +109,11 @@ dead-more (x ∷ xs) zero e = rw e
 dead-more (x ∷ xs) (suc i) e =
     let ih = dead-more xs i e in
     test (isLive x) (λ d. rw d ih) (λ d. rw d (ap suc ih))
+
+-- the id that was vacated last is the next
+pub newId-erased : (id : ℕ) (x : Index) → newId (erased id x) ≡ id
+unfolding erased
+newId-erased id x =
+    let v : length (x .vacant ++ id ∷ []) ≡ suc (length (x .vacant)) = length-append (x .vacant) (id ∷ []) ∙ omega arith in
+    let l : suc (length (x .vacant)) - 1 ≡ length (x .vacant) = omega arith in
+    rw (v, ne-eqb (suc (length (x .vacant))) 0 (λ e. omega arith), l) (getD-append-seam (x .vacant) id [] 0)

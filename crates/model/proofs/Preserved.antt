@@ -1,6 +1,6 @@
 -- Each call keeps the store sound and the history's catalog in agreement with it. Assumes nothing.
 use mathlib.Core.Path.{_≡_, refl, sym, ap, _∙_}
-use mathlib.Core.Bool.{Bool, true, false, cond, not, _&&_}
+use mathlib.Core.Bool.{Bool, true, false, cond, not, _&&_, _||_}
 use mathlib.Core.List.{List, [], _∷_, _++_, map}
 use mathlib.Core.Option.{Option, none, some}
 use Prim.Native.Nat.{ℕ, suc, _+_, _-_, _≤_, _<_}
@@ -11,14 +11,14 @@ use lib.Seq.{getD-take, getD-append-seam}
 use lib.Dec.{eqb, ltb}
 use borrow.Author.Tests.{ltb-true, ltb-false, eqb-true, eqb-false, eq-eqb, ne-eqb, not-false}
 use Rattle.lists.specs.Lists.{keep, some?, All}
-use Rattle.lists.proofs.Tests.{test, maybe, not-both}
-use Rattle.lists.proofs.Keep.{all-keep, all-kept, all-imp, all-append, all-both, all-set, length-keep, keep-append, keep-no, keep-nil, none-pass}
+use Rattle.lists.proofs.Tests.{test, maybe, not-both, and-right}
+use Rattle.lists.proofs.Keep.{all-at, all-keep, all-kept, all-imp, all-append, all-both, all-set, length-keep, keep-append, keep-no, keep-nil, none-pass}
 use Rattle.lists.proofs.Place.{under-keep, sorted-keep, all-placeAll, length-placeAll}
 use Rattle.model.specs.Fingerprints.{Hash, Fingerprint, fingerprintOf, fingerprintsOf, malformed, malformedBuild, referenceMost}
-use Rattle.model.specs.Rows.{Row, isSet, rowOf, hashSound}
+use Rattle.model.specs.Rows.{Row, hasRmax, isCanonical, isSet, rowOf, rowSound, hashSound}
 use Rattle.model.specs.Index.{Posting, Index, empty, keyOf, posted, numbered, unskipped, exceeds, isStopped, placed, postingsAfter, stoppedAfter, withoutId, newId, popped, putRow, isLive, inserted, builtFrom, erased}
 use Rattle.model.specs.Query.{Scheme, Catalog, catalog}
-use Rattle.model.specs.Calls.{Sizes, Store, unlisted, unsound, holds, content, Call, build, insert, remove, liveCount, query, refusal, buildTests, insertTests, plainTests, queryTests, buildStep, insertStep, removeStep, countStep, queryStep, step}
+use Rattle.model.specs.Calls.{Sizes, Store, unlisted, unsound, holds, content, isUnlisted, isUnsound, Call, build, insert, remove, replace, liveCount, query, refusal, buildTests, insertTests, replaceTests, plainTests, queryTests, setOf, buildStep, insertStep, removeStep, replaceStep, countStep, queryStep, step}
 use Rattle.model.specs.Sound.{isDead, goodRow, goodHash, Sound, SoundStore}
 use Rattle.model.specs.History.{withRecording, withoutRecording, fromBuild, after, leaves, answers, replay}
 use Rattle.model.specs.Refusals.{testOf}
@@ -250,7 +250,7 @@ module _ (w : ℕ) (z : Sizes) (w2 : 2 ≤ w) where
     }
 
     module _ (live : isLive (getD (x .rows) id none) ≡ true) where
-      inside : id < length (x .rows)
+      pub inside : id < length (x .rows)
       inside = test (ltb id (length (x .rows))) (λ e. ltb-true id (length (x .rows)) e)
           (λ e. let n : isLive (getD (x .rows) id none) ≡ false = rw (List·getD-eq-default (x .rows) none (ltb-false id (length (x .rows)) e)) in absurd (not-both live n))
 
@@ -353,6 +353,51 @@ module _ (w : ℕ) (z : Sizes) (w2 : 2 ≤ w) where
     clean = all-keep (λ p. c .stopped (keyOf p) ≡ false) (λ p. not (eqb (p .id) id)) (c .held) (I .clean);
   }
 
+  -- ---- replace: the insertion into what the removal leaves
+
+  live-set : (o : Option Row) → isLive o ≡ true → goodRow w o ≡ true → isSet (setOf o) ≡ true
+  unfolding rowSound
+  live-set none e h = absurd (not-both e refl)
+  live-set (some r) e h = and-right (hasRmax w || eqb (r .rmax) 0) (isSet (r .set)) (and-right (isCanonical (r .rate)) _ h)
+
+  pub set-allowed : (x : Index) (id : ℕ) → Sound w z x → isLive (getD (x .rows) id none) ≡ true → isSet (setOf (getD (x .rows) id none)) ≡ true
+  set-allowed x id h live = live-set (getD (x .rows) id none) live (all-at (λ o. goodRow w o ≡ true) (x .rows) none (h .rows-good) id (inside w z w2 id x h live))
+
+  module _ (s : Store) (id limit rate : ℕ) (words : List ℕ) where
+    -- of a recording that is live, its table is that of the insertion into what the removal leaves
+    pub as-insertion : Sound w z (content s) → isUnlisted s ≡ false → isUnsound s ≡ false → isLive (getD (content s .rows) id none) ≡ true
+        → refusal (replaceStep w z s id limit rate words .tests)
+        ≡ refusal (insertTests z (holds (erased id (content s))) (malformed w referenceMost words) limit (fingerprintOf w rate (setOf (getD (content s .rows) id none)) words))
+    unfolding replaceStep removeStep insertStep insertTests replaceTests
+    as-insertion h l u live = rw (l, u, live, set-allowed (content s) id h live)
+
+    module _ (e : refusal (replaceStep w z s id limit rate words .tests) ≡ none) where
+      applies : (n : ℕ) → testOf n (replaceStep w z s id limit rate words .tests) ≡ false
+      applies = none-applies (replaceStep w z s id limit rate words .tests) e
+
+      pub replaced-listed : isUnlisted s ≡ false
+      unfolding replaceStep replaceTests
+      replaced-listed = applies 1
+
+      pub replaced-read : isUnsound s ≡ false
+      unfolding replaceStep replaceTests
+      replaced-read = applies 2
+
+      pub replaced-live : isLive (getD (content s .rows) id none) ≡ true
+      unfolding replaceStep replaceTests
+      replaced-live = not-false (isLive (getD (content s .rows) id none)) (applies 10)
+
+      pub then-accepted : Sound w z (content s)
+          → refusal (insertTests z (holds (erased id (content s))) (malformed w referenceMost words) limit (fingerprintOf w rate (setOf (getD (content s .rows) id none)) words)) ≡ none
+      then-accepted h = sym (as-insertion h replaced-listed replaced-read replaced-live) ∙ e
+
+  pub inv-replaced : (s : Store) (c : Catalog) → Inv w z s c → (id limit rate : ℕ) (words : List ℕ) → refusal (replaceStep w z s id limit rate words .tests) ≡ none
+      → let f = fingerprintOf w rate (setOf (getD (content s .rows) id none)) words in
+      Inv w z (holds (inserted w limit f (erased id (content s)))) (withRecording w limit f (newId (erased id (content s))) (withoutRecording id c))
+  inv-replaced s c I id limit rate words e =
+      inv-inserted (holds (erased id (content s))) (withoutRecording id c) (inv-erased s c I id (replaced-live s id limit rate words e))
+      (malformed w referenceMost words) limit (fingerprintOf w rate (setOf (getD (content s .rows) id none)) words) (wide-hashes w w2 words) (then-accepted s id limit rate words e (I .sound))
+
   pub start-inv : (s : Store) → SoundStore w z s → Inv w z s (catalog (content s))
   unfolding Clean
   start-inv unlisted h = record { sound = empty-sound w z w2; agrees = agrees-self (catalog empty); clean = tt }
@@ -366,7 +411,7 @@ sound-store w z (holds x) h = h
 
 module _ (S : Scheme) (z : Sizes) (w2 : 2 ≤ S .width) where
   pub step-inv : (s : Store) (c : Catalog) → Inv (S .width) z s c → (x : Call S) → Inv (S .width) z (step S z s x .1) (after S c x (step S z s x .0))
-  unfolding buildStep insertStep removeStep countStep queryStep after
+  unfolding buildStep insertStep removeStep replaceStep countStep queryStep after
   step-inv s c I (build limit words lengths rates sets) =
       maybe (refusal (buildTests z s (malformedBuild (S .width) words lengths rates sets) limit (fingerprintsOf (S .width) words lengths rates sets)))
       (λ e. rw e (inv-built (S .width) z w2 s (malformedBuild (S .width) words lengths rates sets) limit (fingerprintsOf (S .width) words lengths rates sets) (wide-fingerprints (S .width) w2 words lengths rates sets) e))
@@ -377,6 +422,10 @@ module _ (S : Scheme) (z : Sizes) (w2 : 2 ≤ S .width) where
       (λ n e. rw e I)
   step-inv s c I (remove id) = maybe (refusal (plainTests s))
       (λ e. test (isLive (getD (content s .rows) id none)) (λ d. rw (e, d) (inv-erased (S .width) z w2 s c I id d)) (λ d. rw (e, d) I))
+      (λ n e. rw e I)
+  step-inv s c I (replace id limit rate words) =
+      maybe (refusal (replaceStep (S .width) z s id limit rate words .tests))
+      (λ e. rw (e, replaced-live (S .width) z w2 s id limit rate words e, ← (I .agrees .live id)) (inv-replaced (S .width) z w2 s c I id limit rate words e))
       (λ n e. rw e I)
   step-inv s c I liveCount = maybe (refusal (plainTests s)) (λ e. rw e I) (λ n e. rw e I)
   step-inv s c I (query q) = maybe (refusal (queryTests S s q)) (λ e. rw e I) (λ n e. rw e I)

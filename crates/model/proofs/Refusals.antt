@@ -9,7 +9,7 @@ use borrow.Author.Tests.{eqb-true, eqb-false, eq-eqb, ne-eqb}
 use Rattle.lists.specs.Lists.{some?, All, member}
 use Rattle.lists.proofs.Tests.{test, not-both, and-left, and-right, or-false-left, or-false-right}
 use Rattle.model.specs.Query.{Scheme}
-use Rattle.model.specs.Calls.{Sizes, Store, refused, Call, build, insert, remove, liveCount, query, refusal, buildTests, insertTests, plainTests, earlyTests, queryTests, buildStep, insertStep, removeStep, countStep, queryStep}
+use Rattle.model.specs.Calls.{Sizes, Store, refused, Call, build, insert, remove, replace, liveCount, query, refusal, buildTests, insertTests, replaceTests, plainTests, earlyTests, queryTests, buildStep, insertStep, removeStep, replaceStep, countStep, queryStep}
 use Rattle.model.specs.Words.{Words, sizesOf}
 use Rattle.model.specs.Run.{storeOf, run}
 use Rattle.model.specs.History.{leaves, answers}
@@ -84,10 +84,11 @@ first-is (o ∷ os) (e ∷ es) u f =
 
 -- computed
 tables-in-order : (S : Scheme) (z : Sizes) (s : Store) (x : Call S) → follows order (numbers (testsOf S z s x)) ≡ true
-unfolding buildStep insertStep removeStep countStep queryStep buildTests insertTests plainTests earlyTests queryTests
+unfolding buildStep insertStep removeStep replaceStep countStep queryStep buildTests insertTests replaceTests plainTests earlyTests queryTests
 tables-in-order S z s (build limit words lengths rates sets) = refl
 tables-in-order S z s (insert limit rate set words) = refl
 tables-in-order S z s (remove id) = refl
+tables-in-order S z s (replace id limit rate words) = refl
 tables-in-order S z s liveCount = refl
 tables-in-order S z s (query q) = refl
 

@@ -11,11 +11,11 @@ use Rattle.matching.specs.declared.MatchResult.{MatchResult}
 use Rattle.model.specs.Fingerprints.{fingerprintOf, fingerprintsOf, malformed, malformedBuild, referenceMost}
 use Rattle.model.specs.Index.{Index, isLive, inserted, builtFrom, erased}
 use Rattle.model.specs.Query.{Scheme, Query, catalog, bestOf}
-use Rattle.model.specs.Calls.{Sizes, Store, holds, content, isUnlisted, Answer, removed, refused, Call, build, insert, remove, liveCount, query, refusal, buildTests, insertTests, plainTests, queryTests, Outcome, outcome, buildStep, insertStep, removeStep, countStep, queryStep, answerOf, stepOf, taken, step}
+use Rattle.model.specs.Calls.{Sizes, Store, holds, content, isUnlisted, Answer, removed, refused, Call, build, insert, remove, replace, liveCount, query, refusal, buildTests, insertTests, replaceTests, plainTests, queryTests, setOf, Outcome, outcome, buildStep, insertStep, removeStep, replaceStep, countStep, queryStep, answerOf, stepOf, taken, step}
 use Rattle.model.specs.Words.{Words, sizesOf, slicesListed}
 use Rattle.model.specs.Sound.{Sound, SoundStore}
 use Rattle.model.specs.Claim.{Accepted}
-use Rattle.model.specs.Run.{storeOf, laidOut, onWords, runBuild, runInsert, runRemove, runCount, runQuery, run}
+use Rattle.model.specs.Run.{storeOf, laidOut, onWords, runBuild, runInsert, runRemove, runReplace, runCount, runQuery, run}
 use Rattle.model.proofs.Stores.{written-sizes, store-sound, store-again, store-written, store-unlisted}
 use Rattle.model.proofs.Preserved.{sound-store, none-applies, start-inv, step-inv}
 
@@ -26,7 +26,7 @@ Left s t = (t ≡ s) ⊎ ((x : Index) × (t ≡ holds x) × (isUnlisted s ≡ fa
 
 -- what an accepted call leaves
 accepted-left : (S : Scheme) (z : Sizes) (s : Store) (x : Call S) → refusal (stepOf S z s x .tests) ≡ none → Left s (stepOf S z s x .left)
-unfolding buildStep insertStep removeStep countStep queryStep buildTests insertTests plainTests
+unfolding buildStep insertStep removeStep replaceStep countStep queryStep buildTests insertTests replaceTests plainTests
 accepted-left S z s (build limit words lengths rates sets) e =
     let fs = fingerprintsOf (S .width) words lengths rates sets in
     inr (builtFrom (S .width) limit fs, refl, none-applies (buildTests z s (malformedBuild (S .width) words lengths rates sets) limit fs) e 1)
@@ -36,6 +36,9 @@ accepted-left S z s (insert limit rate set words) e =
 accepted-left S z s (remove id) e = test (isLive (getD (content s .rows) id none))
     (λ d. rw d (inr (erased id (content s), refl, none-applies (plainTests s) e 1)))
     (λ d. rw d (inl refl))
+accepted-left S z s (replace id limit rate words) e =
+    let f = fingerprintOf (S .width) rate (setOf (getD (content s .rows) id none)) words in
+    inr (inserted (S .width) limit f (content (removeStep s id .left)), refl, none-applies (replaceStep (S .width) z s id limit rate words .tests) e 1)
 accepted-left S z s liveCount e = inl refl
 accepted-left S z s (query q) e = inl refl
 
@@ -63,10 +66,11 @@ remove-no s id e = rw e (outcome-same (refusal (plainTests s)) s (removed false)
 
 -- an accepted call answers no refusal
 no-refusal : (S : Scheme) (z : Sizes) (s : Store) (x : Call S) → Accepted (stepOf S z s x .answer)
-unfolding buildStep insertStep removeStep countStep queryStep
+unfolding buildStep insertStep removeStep replaceStep countStep queryStep
 no-refusal S z s (build limit words lengths rates sets) n e = let o : _≡_ {A = ℕ} 0 1 = cc in omega arith
 no-refusal S z s (insert limit rate set words) n e = let o : _≡_ {A = ℕ} 0 1 = cc in omega arith
 no-refusal S z s (remove id) n e = let o : _≡_ {A = ℕ} 0 1 = cc in omega arith
+no-refusal S z s (replace id limit rate words) n e = let o : _≡_ {A = ℕ} 0 1 = cc in omega arith
 no-refusal S z s liveCount n e = let o : _≡_ {A = ℕ} 0 1 = cc in omega arith
 no-refusal S z s (query q) n e = answered (bestOf S q (catalog (content s))) e
   where
@@ -98,11 +102,12 @@ module _ (w : ℕ) (m : Words) (w2 : 2 ≤ w) where
       rw (r .1) (written-sizes w (sizesOf w m) (r .0) w2 s, store-written w m w2 (is-listed (r .2)) (r .0) s))
       l
 
-run-is : (S : Scheme) (m : Words) (x : Call S) → run S m x ≡ onWords (S .width) m (step S (sizesOf (S .width) m) (storeOf (S .width) m) x)
-unfolding runBuild runInsert runRemove runCount runQuery
+pub run-is : (S : Scheme) (m : Words) (x : Call S) → run S m x ≡ onWords (S .width) m (step S (sizesOf (S .width) m) (storeOf (S .width) m) x)
+unfolding runBuild runInsert runRemove runReplace runCount runQuery
 run-is S m (build limit words lengths rates sets) = refl
 run-is S m (insert limit rate set words) = refl
 run-is S m (remove id) = refl
+run-is S m (replace id limit rate words) = refl
 run-is S m liveCount = refl
 run-is S m (query q) = refl
 

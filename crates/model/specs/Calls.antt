@@ -1,4 +1,4 @@
--- The five calls: what each answers and leaves, refused ones included. Definitions only. Assumes nothing.
+-- The six calls: what each answers and leaves, refused ones included. Definitions only. Assumes nothing.
 use mathlib.Core.Bool.{Bool, true, false, cond, not, _&&_, _||_}
 use mathlib.Core.List.{List, [], _∷_, _++_}
 use mathlib.Core.Option.{Option, none, some}
@@ -8,7 +8,7 @@ use lib.Dec.{eqb, leb, ltb}
 use Rattle.lists.specs.Lists.{some?}
 use Rattle.matching.specs.declared.MatchResult.{MatchResult}
 use Rattle.model.specs.Fingerprints.{Fingerprint, fingerprintOf, fingerprintsOf, referenceMost, queryMost, malformed, malformedBuild}
-use Rattle.model.specs.Rows.{setMost, isSet}
+use Rattle.model.specs.Rows.{Row, setMost, isSet}
 use Rattle.model.specs.Index.{Index, empty, posted, numbered, unskipped, isStopped, stoppedAfter, newId, isLive, inserted, builtFrom, erased}
 use Rattle.model.specs.Query.{Scheme, Query, catalog, tooManyVotes, bestOf}
 
@@ -54,6 +54,7 @@ pub data Call (S : Scheme) : Type 0 where
   build : (limit : ℕ) (words lengths rates sets : List ℕ) → Call S
   insert : (limit rate set : ℕ) (words : List ℕ) → Call S
   remove : (id : ℕ) → Call S
+  replace : (id limit rate : ℕ) (words : List ℕ) → Call S
   liveCount : Call S
   query : Query S → Call S
 
@@ -80,19 +81,33 @@ buildTests z s bad limit fs =
     ∷ (7, ltb (z .K) (length (stoppedAfter limit empty (numbered 0 fs))))
     ∷ []
 
--- "insert: v = 0 and n = R"; "p + m > P, m being the hashes whose key isn't stopped"; "stopped keys after the call would exceed K"
+-- the room for a recording in index x: "insert: v = 0 and n = R"; "p + m > P, m being the hashes whose key isn't stopped"; "stopped keys after the
+-- call would exceed K"
+abbrev pub roomTests : Sizes → Index → ℕ → Fingerprint → List (ℕ × Bool)
+roomTests z x limit f =
+    let new = posted (newId x) (f .hashes) in
+    (5, eqb (length (x .vacant)) 0 && eqb (length (x .rows)) (z .R))
+    ∷ (6, ltb (z .P) (length (x .postings) + length (unskipped (isStopped x) new)))
+    ∷ (7, ltb (z .K) (length (stoppedAfter limit x new)))
+    ∷ []
+
 unfoldable pub insertTests : Sizes → Store → Bool → ℕ → Fingerprint → List (ℕ × Bool)
 insertTests z s bad limit f =
-    let x = content s in
-    let new = posted (newId x) (f .hashes) in
     (1, isUnlisted s)
     ∷ (2, isUnsound s)
     ∷ (3, bad)
     ∷ (9, not (isSet (f .set)))
-    ∷ (5, eqb (length (x .vacant)) 0 && eqb (length (x .rows)) (z .R))
-    ∷ (6, ltb (z .P) (length (x .postings) + length (unskipped (isStopped x) new)))
-    ∷ (7, ltb (z .K) (length (stoppedAfter limit x new)))
-    ∷ []
+    ∷ roomTests z (content s) limit f
+
+-- "It refuses with 10, placed after 4, an id that isn't live"; "room (refusals 5 to 7) is judged with the old take already removed": `between` is
+-- what the removal leaves. Row 5 never applies: the removal has just vacated an id (`never-full` in Replacement).
+unfoldable pub replaceTests : Sizes → Store → Bool → Bool → Index → ℕ → Fingerprint → List (ℕ × Bool)
+replaceTests z s bad live between limit f =
+    (1, isUnlisted s)
+    ∷ (2, isUnsound s)
+    ∷ (3, bad)
+    ∷ (10, not live)
+    ∷ roomTests z between limit f
 
 -- of remove and live_count
 unfoldable pub plainTests : Store → List (ℕ × Bool)
@@ -156,6 +171,24 @@ removeStep s id =
     let live = isLive (getD (content s .rows) id none) in
     record { tests = plainTests s; answer = removed live; left = cond live (holds (erased id (content s))) s }
 
+-- the set of a row
+abbrev pub setOf : Option Row → ℕ
+setOf none = 0
+setOf (some r) = r .set
+
+-- "one replacement that keeps the id and set": the insertion, under the row's set, into what the removal leaves. "Where it isn't refused, it
+-- answers and leaves what the removal and then the insertion would".
+unfoldable pub replaceStep : ℕ → Sizes → Store → ℕ → ℕ → ℕ → List ℕ → Step
+replaceStep w z s id limit rate words =
+    let row = getD (content s .rows) id none in
+    let between = removeStep s id .left in
+    let insertion = insertStep w z between limit rate (setOf row) words in
+    record {
+      tests = replaceTests z s (malformed w referenceMost words) (isLive row) (content between) limit (fingerprintOf w rate (setOf row) words);
+      answer = insertion .answer;
+      left = insertion .left;
+    }
+
 -- "live_count is n − v"
 unfoldable pub countStep : Store → Step
 countStep s = record { tests = plainTests s; answer = count (length (content s .rows) - length (content s .vacant)); left = s }
@@ -173,6 +206,7 @@ abbrev pub stepOf : (S : Scheme) → Sizes → Store → Call S → Step
 stepOf S z s (build limit words lengths rates sets) = buildStep (S .width) z s limit words lengths rates sets
 stepOf S z s (insert limit rate set words) = insertStep (S .width) z s limit rate set words
 stepOf S z s (remove id) = removeStep s id
+stepOf S z s (replace id limit rate words) = replaceStep (S .width) z s id limit rate words
 stepOf S z s liveCount = countStep s
 stepOf S z s (query q) = queryStep S s q
 

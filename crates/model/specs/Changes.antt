@@ -8,7 +8,7 @@ use Prim.Native.Nat.{ℕ, _+_, _*_}
 use lib.Dec.{eqb}
 use lib.ListN.{replicate}
 use Rattle.model.specs.Query.{Scheme, Query}
-use Rattle.model.specs.Calls.{Answer, built, stored, removed, count, best, nothing, refused, Call, build, insert, remove, query}
+use Rattle.model.specs.Calls.{Answer, built, stored, removed, count, best, nothing, refused, Call, build, insert, remove, replace, query}
 use Rattle.model.specs.Words.{Words, headWidth, rowWidth}
 use Rattle.model.specs.Run.{run}
 use Rattle.model.specs.History.{leaves}
@@ -69,6 +69,7 @@ module _ (S : Scheme) where
 
   abbrev pub table : Material → List Example
   table t =
+      let full = store (t .both) ∷ store (t .both) ∷ store (t .both) ∷ [] in
       -- a newcomer that wins: two votes against one
       change 0 (store (t .one) ∷ []) (store (t .both)) (some (0, 1)) (some (1, 2))
       -- one that loses
@@ -99,6 +100,23 @@ module _ (S : Scheme) where
       ∷ change 2 (storeJunior (t .both) ∷ []) (insert 1 rate 1 (t .one)) (some (0, 2)) (some (0, 1))
       -- one that stops a key which only the other set holds: the answer stays
       ∷ change 2 (store (t .other) ∷ storeJunior (t .both) ∷ []) (insert 1 rate 1 (t .other)) (some (1, 2)) (some (1, 2))
+      -- a corrected take of another recording that wins; one of the recording that was the answer, which loses it
+      ∷ change 0 (store (t .one) ∷ store (t .other) ∷ []) (replace 1 100 rate (t .both)) (some (0, 1)) (some (1, 2))
+      ∷ change 0 (store (t .both) ∷ store (t .one) ∷ []) (replace 0 100 rate (t .other)) (some (0, 2)) (some (1, 1))
+      -- it keeps its set
+      ∷ change 2 (storeJunior (t .other) ∷ []) (replace 0 100 rate (t .both)) none (some (0, 2))
+      ∷ change 1 (storeJunior (t .other) ∷ []) (replace 0 100 rate (t .both)) none none
+      -- the old take isn't counted against the limit; another recording's hash is, and the key is stopped
+      ∷ change 0 (store (t .both) ∷ []) (replace 0 1 rate (t .both)) (some (0, 2)) (some (0, 2))
+      ∷ change 0 (store (t .both) ∷ store (t .one) ∷ []) (replace 1 1 rate (t .one)) (some (0, 2)) (some (0, 1))
+      -- a key that the old take filled stays stopped
+      ∷ change 0 (insert 0 rate 1 (t .one) ∷ []) (replace 0 100 rate (t .one)) none none
+      -- all six postings are in use, and no row is free: the old take makes room for its like, and one of three hashes is refused
+      ∷ change 0 full (replace 2 100 rate (t .other ++ t .one)) (some (0, 2)) (some (0, 2))
+      ∷ change 0 full (replace 0 100 rate (t .one ++ t .other)) (some (0, 2)) (some (1, 2))
+      ∷ change 0 full (replace 0 100 rate (t .both ++ t .one)) (some (0, 2)) (some (0, 2))
+      -- an id that isn't live is refused, and nothing is stored
+      ∷ change 0 (store (t .one) ∷ []) (replace 1 100 rate (t .both)) (some (0, 1)) (some (0, 1))
       -- a set of 0, and one above 255, are refused, and nothing is stored
       ∷ change 0 (store (t .one) ∷ []) (insert 100 rate 0 (t .both)) (some (0, 1)) (some (0, 1))
       ∷ change 0 (store (t .one) ∷ []) (insert 100 rate 256 (t .both)) (some (0, 1)) (some (0, 1))

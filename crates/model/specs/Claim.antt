@@ -11,6 +11,10 @@
 --            its row and the query. So where it is of another set, the answer is the one before, to the bit (`Elsewhere` in Sets).
 --   remove   If a call of remove answers yes for id, then any query that was accepted before, and not answered with id, is accepted
 --            after and has the same answer.
+--   replace  If a call of replace answers that it stored a recording as id, it is read as those two calls: what is said of remove holds from
+--            before the call to the index between them, which the removal of id would have left, and what is said of insert from there to
+--            after the call. So a corrected take changes an answer that wasn't its own only by being the better answer itself
+--            (`Corrected` in Replacement).
 --
 -- The claim is one statement about the list (`Demand3`), for any way of running calls. `Claim` states it of `run`, which the contracts
 -- of the entries equal. Definitions only. Assumes nothing.
@@ -28,7 +32,7 @@ use Rattle.matching.specs.Results.{better}
 use Rattle.model.specs.Rows.{Row}
 use Rattle.model.specs.Index.{keyOf, ofId, isLive}
 use Rattle.model.specs.Query.{Scheme, Query, Catalog, catalog, asked, hashes, votes}
-use Rattle.model.specs.Calls.{content, Call, build, insert, remove, liveCount, query, Answer, stored, removed, best, nothing, refused}
+use Rattle.model.specs.Calls.{content, Call, build, insert, remove, replace, liveCount, query, Answer, stored, removed, best, nothing, refused}
 use Rattle.model.specs.Words.{Words}
 use Rattle.model.specs.Run.{storeOf, run}
 use Rattle.model.specs.History.{leaves, history, answerFrom}
@@ -64,33 +68,42 @@ module _ (S : Scheme) where
     pub new-if : (r : MatchResult) → BecomesBest q d id old r → new ≡ best id r
     pub new-only-if : (r : MatchResult) → new ≡ best id r → BecomesBest q d id old r
 
-  -- how queries are answered
-  abbrev pub Replies : Type 0
-  Replies = Query S → Answer
+  -- a moment of a history: how queries are answered then, and the catalog
+  pub record Moment : Type 0 where
+    pub reply : Query S → Answer
+    pub known : Catalog
 
-  -- what is claimed of a stored recording id, from the replies before and after and the catalogs before and after
-  abbrev pub AfterInsert : Replies → Replies → Catalog → Catalog → ℕ → Type 0
-  AfterInsert old new c d id = (q : Query S) → KeysKept (q .set) c d id → Accepted (old q) → Accepted (new q) → OldOrNew q d id (old q) (new q)
+  -- what is claimed of a recording that was stored as id between two moments
+  abbrev pub AfterInsert : Moment → Moment → ℕ → Type 0
+  AfterInsert old new id =
+      (q : Query S) → KeysKept (q .set) (old .known) (new .known) id → Accepted (old .reply q) → Accepted (new .reply q)
+      → OldOrNew q (new .known) id (old .reply q) (new .reply q)
 
-  -- and of a removed one
-  abbrev pub AfterRemove : Replies → Replies → ℕ → Type 0
-  AfterRemove old new id = (q : Query S) → Accepted (old q) → ((r : MatchResult) → old q ≡ best id r → ⊥) → Accepted (new q) × (new q ≡ old q)
+  -- and of one that was removed
+  abbrev pub AfterRemove : Moment → Moment → ℕ → Type 0
+  AfterRemove old new id =
+      (q : Query S) → Accepted (old .reply q) → ((r : MatchResult) → old .reply q ≡ best id r → ⊥)
+      → Accepted (new .reply q) × (new .reply q ≡ old .reply q)
 
-  -- at a call that was answered a
-  abbrev pub ClaimedAt : Replies → Replies → Catalog → Catalog → Answer → Call S → Type 0
-  ClaimedAt old new c d a (insert limit rate set words) = (id : ℕ) → a ≡ stored id → AfterInsert old new c d id
-  ClaimedAt old new c d a (remove id) = a ≡ removed true → AfterRemove old new id
-  ClaimedAt old new c d a (build limit words lengths rates sets) = Unit {0}
-  ClaimedAt old new c d a liveCount = Unit {0}
-  ClaimedAt old new c d a (query q) = Unit {0}
+  -- at a call x that was answered a, after the calls `before`; `at` is the moment after any calls
+  abbrev pub ClaimedAt : (List (Call S) → Moment) → List (Call S) → Answer → Call S → Type 0
+  ClaimedAt at before a (insert limit rate set words) = (id : ℕ) → a ≡ stored id → AfterInsert (at before) (at (before ++ insert limit rate set words ∷ [])) id
+  ClaimedAt at before a (remove id) = a ≡ removed true → AfterRemove (at before) (at (before ++ remove id ∷ [])) id
+  ClaimedAt at before a (replace id limit rate words) =
+      a ≡ stored id → AfterRemove (at before) (at (before ++ remove id ∷ [])) id × AfterInsert (at (before ++ remove id ∷ [])) (at (before ++ replace id limit rate words ∷ [])) id
+  ClaimedAt at before a (build limit words lengths rates sets) = Unit {0}
+  ClaimedAt at before a liveCount = Unit {0}
+  ClaimedAt at before a (query q) = Unit {0}
 
-  -- wherever in a list of calls, t being what they work on and c the catalog at first
+  -- the moment after calls, t being what they work on and c the catalog at first
+  abbrev pub momentAfter : {T : Type 0} → (T → Call S → Answer × T) → Catalog → T → List (Call S) → Moment
+  momentAfter {T} run c t calls = record { reply = λ q. run (leaves S run t calls) (query q) .0; known = history S run c t calls }
+
+  -- wherever in a list of calls
   abbrev pub Demand3 : {T : Type 0} → (T → Call S → Answer × T) → Catalog → T → List (Call S) → Type 0
   Demand3 {T} run c t calls =
       (before : List (Call S)) (x : Call S) (rest : List (Call S)) → calls ≡ before ++ x ∷ rest →
-      ClaimedAt (λ q. run (leaves S run t before) (query q) .0) (λ q. run (leaves S run t (before ++ x ∷ [])) (query q) .0)
-      (history S run c t before) (history S run c t (before ++ x ∷ []))
-      (run (leaves S run t before) x .0) x
+      ClaimedAt (momentAfter run c t) before (run (leaves S run t before) x .0) x
 
   -- and each accepted call answers what the history says: the id that is given, yes or no, the live count, the best recording
   abbrev pub FromHistory : {T : Type 0} → (T → Call S → Answer × T) → Catalog → T → Type 0

@@ -12,7 +12,7 @@ use Rattle.model.specs.Fingerprints.{Fingerprint, fingerprintOf, fingerp
 use Rattle.model.specs.Rows.{rowOf}
 use Rattle.model.specs.Index.{Posting, empty, posted, numbered, unskipped, exceeds, withoutKeys, withoutId, popped, nextId, isLive}
 use Rattle.model.specs.Query.{Scheme, Catalog, catalog, bestOf}
-use Rattle.model.specs.Calls.{Call, build, insert, remove, liveCount, query, Answer, built, stored, removed, count, best, nothing, refused, answerOf}
+use Rattle.model.specs.Calls.{Call, build, insert, remove, replace, liveCount, query, Answer, built, stored, removed, count, best, nothing, refused, setOf, answerOf}
 
 -- ── what an accepted call does to a catalog ──
 
@@ -90,10 +90,16 @@ abbrev pub withRecordingIf : ℕ → ℕ → Fingerprint → Option ℕ → Cata
 withRecordingIf w limit f none c = c
 withRecordingIf w limit f (some id) c = withRecording w limit f id c
 
+-- a replacement of recording id, "as those two calls": id is removed, and the new take is stored
+abbrev pub replacedIf : ℕ → ℕ → ℕ → Fingerprint → Option ℕ → Catalog → Catalog
+replacedIf w limit id f none c = c
+replacedIf w limit id f (some j) c = withRecording w limit f j (withoutRecording id c)
+
 unfoldable pub after : (S : Scheme) → Catalog → Call S → Answer → Catalog
 after S c (build limit words lengths rates sets) a = cond (isBuilt a) (fromBuild (S .width) limit (fingerprintsOf (S .width) words lengths rates sets)) c
 after S c (insert limit rate set words) a = withRecordingIf (S .width) limit (fingerprintOf (S .width) rate set words) (storedId a) c
 after S c (remove id) a = cond (isRemoved a) (withoutRecording id c) c
+after S c (replace id limit rate words) a = replacedIf (S .width) limit id (fingerprintOf (S .width) rate (setOf (c .live id)) words) (storedId a) c
 after S c liveCount a = c
 after S c (query q) a = c
 
@@ -123,5 +129,6 @@ abbrev pub answerFrom : (S : Scheme) → Catalog → Call S → Answer
 answerFrom S c (build limit words lengths rates sets) = built
 answerFrom S c (insert limit rate set words) = stored (nextId (c .vacant) (c .size))
 answerFrom S c (remove id) = removed (isLive (c .live id))
+answerFrom S c (replace id limit rate words) = stored id
 answerFrom S c liveCount = count (c .size - length (c .vacant))
 answerFrom S c (query q) = answerOf (bestOf S q c)

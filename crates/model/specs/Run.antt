@@ -3,7 +3,7 @@ use mathlib.Core.Bool.{cond}
 use mathlib.Core.List.{List}
 use Prim.Native.Nat.{ℕ}
 use Rattle.model.specs.Query.{Scheme, Query}
-use Rattle.model.specs.Calls.{Store, unlisted, unsound, holds, Answer, Call, build, insert, remove, liveCount, query, Outcome, buildStep, insertStep, removeStep, countStep, queryStep, taken}
+use Rattle.model.specs.Calls.{Store, unlisted, unsound, holds, Answer, Call, build, insert, remove, replace, liveCount, query, Outcome, buildStep, insertStep, removeStep, replaceStep, countStep, queryStep, taken}
 use Rattle.model.specs.Words.{Words, sizesOf, slicesListed, write, readIndex}
 use Rattle.model.specs.Soundness.{soundWords}
 
@@ -30,6 +30,9 @@ runInsert w m limit rate set words = onWords w m (taken (storeOf w m) (insertSte
 unfoldable pub runRemove : ℕ → Words → ℕ → Answer × Words
 runRemove w m id = onWords w m (taken (storeOf w m) (removeStep (storeOf w m) id))
 
+unfoldable pub runReplace : ℕ → Words → ℕ → ℕ → ℕ → List ℕ → Answer × Words
+runReplace w m id limit rate words = onWords w m (taken (storeOf w m) (replaceStep w (sizesOf w m) (storeOf w m) id limit rate words))
+
 unfoldable pub runCount : ℕ → Words → Answer × Words
 runCount w m = onWords w m (taken (storeOf w m) (countStep (storeOf w m)))
 
@@ -40,5 +43,6 @@ abbrev pub run : (S : Scheme) → Words → Call S → Answer × Words
 run S m (build limit words lengths rates sets) = runBuild (S .width) m limit words lengths rates sets
 run S m (insert limit rate set words) = runInsert (S .width) m limit rate set words
 run S m (remove id) = runRemove (S .width) m id
+run S m (replace id limit rate words) = runReplace (S .width) m id limit rate words
 run S m liveCount = runCount (S .width) m
 run S m (query q) = runQuery S m q

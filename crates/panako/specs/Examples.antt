@@ -23,10 +23,10 @@ use Rattle.model.specs.Fingerprints.{hashesOf, divided, malformed, malformedBui
 use Rattle.model.specs.Rows.{canonical, isCanonical, isSet, inSet, rowOf, largestAnchor}
 use Rattle.model.specs.Index.{numbered, exceeds, stopKeys, inserted, builtFrom, erased}
 use Rattle.model.specs.Query.{Query, gather, tooManyVotes, candidate, bestBelow}
-use Rattle.model.specs.Calls.{nothing, query, buildTests, insertTests, plainTests, earlyTests, queryTests, scratchListed, buildStep, insertStep, removeStep, queryStep}
+use Rattle.model.specs.Calls.{nothing, query, buildTests, insertTests, replaceTests, plainTests, earlyTests, queryTests, scratchListed, buildStep, insertStep, removeStep, replaceStep, queryStep}
 use Rattle.model.specs.Words.{sizesOf, sizesListed, slicesListed, rowEntries, write, readIndex}
 use Rattle.model.specs.Soundness.{countsFit, liveWord, stoppedStep, deadRow, otherEntry, vacantEntry, deadFine, rateFine, liveId, postingLive, anchorFine, rmaxFine, otherKey, keyUnstopped, entryUnused, setFine, soundTests, soundWords}
-use Rattle.model.specs.Run.{storeOf, runBuild, runInsert, runRemove, runQuery}
+use Rattle.model.specs.Run.{storeOf, runBuild, runInsert, runRemove, runReplace, runQuery}
 use Rattle.model.specs.History.{leaves}
 use Rattle.model.specs.Changes.{rate, Material, allRight}
 use Rattle.hough.specs.Hough.{houghSum, houghPeak, merged, peakOffset, farSum, farCount, prominence}
@@ -62,5 +62,5 @@ abbrev material : Material panako
 material = record { both = 7 ∷ 110 ∷ 115 ∷ 120 ∷ 9 ∷ 130 ∷ 135 ∷ 140 ∷ []; one = 7 ∷ 110 ∷ 115 ∷ 120 ∷ []; other = 5 ∷ 110 ∷ 115 ∷ 120 ∷ []; probe = probe }
 
 pub examples : T (allRight panako material)
-unfolding leaves runBuild runInsert runRemove runQuery storeOf slicesListed sizesListed sizesOf soundWords soundTests countsFit liveWord stoppedStep deadRow otherEntry vacantEntry deadFine rateFine liveId postingLive anchorFine rmaxFine otherKey keyUnstopped entryUnused setFine readIndex write rowEntries every count allTrue entries keysAscend zeroWord zeroFrom padded keep some? flat sum insertKey place placeAll buildStep insertStep removeStep queryStep buildTests insertTests plainTests earlyTests queryTests scratchListed numbered inserted builtFrom erased exceeds stopKeys hashesOf divided malformed malformedBuild rowOf canonical isCanonical isSet inSet largestAnchor gather tooManyVotes candidate bestBelow better seenOf peakGates gates resultAt judgeBy beyond judge counting.countIf sumTo sumToℤ greatest first firstGreatest mode millis ratesAgree clampScore scoreOf roundToI64 abs maximum nanBits ofBits add sub mul div le lt ofInt isNan round votesOf withBin occupiedBins houghBins timeScaleOf houghSum houghPeak merged peakOffset farSum farCount prominence normalised withinLimits gridOf binAt voteAtScale voteOn perBin binCentre timeScale narrow toUnsigned
+unfolding leaves runBuild runInsert runRemove runReplace runQuery storeOf slicesListed sizesListed sizesOf soundWords soundTests countsFit liveWord stoppedStep deadRow otherEntry vacantEntry deadFine rateFine liveId postingLive anchorFine rmaxFine otherKey keyUnstopped entryUnused setFine readIndex write rowEntries every count allTrue entries keysAscend zeroWord zeroFrom padded keep some? flat sum insertKey place placeAll buildStep insertStep removeStep replaceStep queryStep buildTests insertTests replaceTests plainTests earlyTests queryTests scratchListed numbered inserted builtFrom erased exceeds stopKeys hashesOf divided malformed malformedBuild rowOf canonical isCanonical isSet inSet largestAnchor gather tooManyVotes candidate bestBelow better seenOf peakGates gates resultAt judgeBy beyond judge counting.countIf sumTo sumToℤ greatest first firstGreatest mode millis ratesAgree clampScore scoreOf roundToI64 abs maximum nanBits ofBits add sub mul div le lt ofInt isNan round votesOf withBin occupiedBins houghBins timeScaleOf houghSum houghPeak merged peakOffset farSum farCount prominence normalised withinLimits gridOf binAt voteAtScale voteOn perBin binCentre timeScale narrow toUnsigned
 examples = tt

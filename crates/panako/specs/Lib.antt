@@ -1,5 +1,6 @@
--- The claim about histories for PanakoIndex, worked examples of it, what holds of refused calls, and of other sets.
+-- The claim about histories for PanakoIndex, worked examples of it, what holds of refused calls, of other sets, and of replacements.
 pub mod Demand3
 pub mod Examples
 pub mod Refusals
 pub mod Sets
+pub mod Replacement

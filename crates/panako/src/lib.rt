@@ -4,7 +4,7 @@
 // which specs/Demand3.antt states the claim about histories.
 ghost use mathlib.Core.Path.{_≡_};
 ghost use lib.ListN.{length};
-ghost use Rattle.model.specs.Calls.{build, insert, remove, liveCount, query};
+ghost use Rattle.model.specs.Calls.{build, insert, remove, replace, liveCount, query};
 ghost use Rattle.model.specs.Run.{run};
 ghost use Rattle.soundness.specs.Scan.{lent};
 ghost use Rattle.build.specs.Answers.{buildingAnswer};
@@ -76,6 +76,22 @@ impl PanakoIndex {
             ≡ run panako (lent (refs .entry) (postings .entry) (stopped .entry)) (remove id) ⌝ }
     {
         remove::remove(refs, postings, stopped, WIDTH, id)
+    }
+
+    // Swaps a recording for a corrected take, which keeps its id and its set, and answers the id.
+    pub fn replace(
+        refs: &mut [u32],
+        postings: &mut [u32],
+        stopped: &mut [u32],
+        id: u32,
+        hashes: &[u32],
+        rate: u32,
+        limit: u32,
+    ) -> Insertion
+        ensures { λ r. ⌜ (insertionAnswer r, lent (refs .exit) (postings .exit) (stopped .exit))
+            ≡ run panako (lent (refs .entry) (postings .entry) (stopped .entry)) (replace id limit rate (now (hashes .entry))) ⌝ }
+    {
+        replace::replace(refs, postings, stopped, hashes, WIDTH, id, rate, limit)
     }
 
     // How many recordings are live.

@@ -14,7 +14,6 @@ use Rattle.lists.specs.Lists.{keep, some?, flat}
 use Rattle.lists.specs.Entries.{entries, Wide, padded}
 use Rattle.lists.proofs.Tests.{test}
 use Rattle.lists.proofs.Keep.{keep-map, keep-ext, length-keep, length-flat, all-keep}
-use Rattle.lists.proofs.Entries.{length-entries}
 use Rattle.model.specs.Rows.{Row, noRate}
 use Rattle.model.specs.Index.{Posting, Index, withoutId, erased}
 use Rattle.model.specs.Calls.{Sizes}
@@ -148,8 +147,3 @@ module _ (w : ℕ) (z : Sizes) (x : Index) (id : ℕ) (fewer : length (x .vacant
 pub stopped-is : (w : ℕ) (z : Sizes) (x : Index) (id : ℕ) → write w z x .stopped ≡ write w z (erased id x) .stopped
 unfolding write erased
 stopped-is w z x id = refl
-
--- no more entries stay than there were
-pub few-stay : (w p f : ℕ) (xs s : List ℕ) → length (staying w p f xs s) ≤ p
-unfolding staying
-few-stay w p f xs s = omega (arith, length-keep (unnamed f xs) (entries w p s), length-entries w p s)

@@ -90,7 +90,7 @@ module _ (w : ℕ) (rs ps ss : List ℕ) (w3 : 3 ≤ w) (l : slicesListed w (wor
   rows-there = omega (arith, references-long w m w2 l, facts-are .rows-fit)
 
   -- is the recording live?
-  live-is : (id : ℕ) → isLive (getD (x .rows) id none) ≡ liveId rs (getD rs 0 0) id
+  pub live-is : (id : ℕ) → isLive (getD (x .rows) id none) ≡ liveId rs (getD rs 0 0) id
   unfolding readIndex liveId
   live-is id = ⊎-elim
       (λ (h : getD rs 0 0 ≤ id).

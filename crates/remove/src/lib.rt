@@ -40,7 +40,7 @@ pub fn live_count(refs: &[u32], posts: &[u32], stops: &[u32], w: usize) -> LiveC
 }
 
 // Whether id is live.
-fn is_live(refs: &[u32], id: u32) -> bool
+pub fn is_live(refs: &[u32], id: u32) -> bool
     requires { ⌜ (headWidth ≤ length (now refs)) × (headWidth + rowWidth * getD (now refs) 0 0 ≤ length (now refs)) ⌝ }
     ensures { λ r. ⌜ r ≡ liveId (now (refs .entry)) (getD (now (refs .entry)) 0 0) id ⌝ }
 {
@@ -70,7 +70,7 @@ fn vacate(refs: &mut [u32], id: u32, held: u32)
 }
 
 // The postings of id go, and it is vacated.
-fn erase(refs: &mut [u32], posts: &mut [u32], w: usize, id: u32)
+pub fn erase(refs: &mut [u32], posts: &mut [u32], w: usize, id: u32)
     requires { ⌜ Erasable w (now refs) (now posts) id ⌝ }
     ensures { λ _. ⌜ now (refs .exit) ≡ vacated (now (refs .entry)) id (length (others w (now (refs .entry)) (now (posts .entry)) id)) ⌝ }
     ensures { λ _. ⌜ now (posts .exit) ≡ othersLeft w (now (refs .entry)) (now (posts .entry)) id ⌝ }

@@ -139,6 +139,38 @@ fn remove(
     true
 }
 
+// Id, limit, rate, hashes.
+fn replace(
+    is_wang: bool,
+    line: &[u32],
+    refs: &mut [u32],
+    postings: &mut [u32],
+    stopped: &mut [u32],
+    answer: &mut [u64; 8],
+) -> bool {
+    if line.len() < 3 {
+        return false;
+    }
+    let id = line[0];
+    let limit = line[1];
+    let rate = line[2];
+    if is_wang {
+        capi::index::wang_index_replace(
+            refs,
+            postings,
+            stopped,
+            id,
+            &line[3..],
+            rate,
+            limit,
+            answer,
+        );
+        return true;
+    }
+    capi::index::panako_index_replace(refs, postings, stopped, id, &line[3..], rate, limit, answer);
+    true
+}
+
 fn live_count(
     is_wang: bool,
     line: &[u32],
@@ -321,6 +353,9 @@ fn change(
     }
     if letter == b'I' {
         return insert(is_wang, line, refs, postings, stopped, answer);
+    }
+    if letter == b'S' {
+        return replace(is_wang, line, refs, postings, stopped, answer);
     }
     remove(is_wang, line, refs, postings, stopped, answer)
 }

@@ -5,12 +5,13 @@
 //     N        posting width, words of the three slices: they are lent, all zeros
 //     r p k    what references, postings, stopped keys begin with; then zeros
 //     R P K    what they are to begin with; then zeros
-//     B        limit, numbers of lengths and of rates, lengths, rates, hashes: build
-//     I        limit, rate, hashes: insert
+//     B        limit, numbers of lengths, of rates and of sets, lengths, rates, sets, hashes: build
+//     I        limit, rate, set, hashes: insert
 //     D        id: remove
+//     S        id, limit, rate, hashes: replace
 //     C        live_count
 //     Q        words of scratch, what they are filled with, rate, scale_min, scale_max, scale_bins, tolerance, min_votes, min_score,
-//              min_prominence, hashes: query
+//              min_prominence, set, hashes: query
 //     A        the last answer's words as the C interface has them, each in two halves; then zeros
 mod calls;
 mod text;
@@ -95,8 +96,13 @@ fn lend(line: &[u32], st: State) -> State {
     }
 }
 
+// A call that may change the store.
+fn is_change(letter: u8) -> bool {
+    (letter == b'B') | (letter == b'I') | (letter == b'D') | (letter == b'S')
+}
+
 fn is_call(letter: u8) -> bool {
-    (letter == b'B') | (letter == b'I') | (letter == b'D') | (letter == b'C') | (letter == b'Q')
+    is_change(letter) | (letter == b'C') | (letter == b'Q')
 }
 
 // A line on the lent slices.

@@ -25,10 +25,10 @@ use Rattle.model.specs.Fingerprints.{hashesOf, divided, malformed}
 use Rattle.model.specs.Rows.{canonical, isCanonical, isSet, inSet, rowOf, largestAnchor}
 use Rattle.model.specs.Index.{inserted, erased, exceeds, stopKeys}
 use Rattle.model.specs.Query.{gather, tooManyVotes, candidate, bestBelow}
-use Rattle.model.specs.Calls.{insertTests, plainTests, earlyTests, queryTests, scratchListed, insertStep, removeStep, queryStep}
+use Rattle.model.specs.Calls.{insertTests, replaceTests, plainTests, earlyTests, queryTests, scratchListed, insertStep, removeStep, replaceStep, queryStep}
 use Rattle.model.specs.Words.{sizesOf, sizesListed, slicesListed, rowEntries, write, readIndex}
 use Rattle.model.specs.Soundness.{countsFit, liveWord, stoppedStep, deadRow, otherEntry, vacantEntry, deadFine, rateFine, liveId, postingLive, anchorFine, rmaxFine, otherKey, keyUnstopped, entryUnused, setFine, soundTests, soundWords}
-use Rattle.model.specs.Run.{storeOf, runInsert, runRemove, runQuery}
+use Rattle.model.specs.Run.{storeOf, runInsert, runRemove, runReplace, runQuery}
 use Rattle.gates.specs.Gates.{peakGates, gates, resultAt}
 use Rattle.wang_judge.specs.Judge.{modeWithin, peakOf, distinct, seenOf, judgeBy}
 use Rattle.wang_judge.specs.Scheme.{beyond, judge}
@@ -62,6 +62,13 @@ question =
 abbrev removal : List ℕ
 removal = small 5 ++ 2 ∷ small 0
 
+-- list 0 as another list, and its corrected take: document 02's kind 04
+abbrev misheard : List ℕ
+misheard = small 0x11 ++ 1 ∷ small 100 ++ rate ++ small 5 ++ small 4
+
+abbrev correction : List ℕ
+correction = small 0x1D ++ 4 ∷ small 0 ++ small 100 ++ rate ++ small 7 ++ small 4 ++ small 9 ++ small 6
+
 -- document 01's card
 abbrev card : List ℕ
 card = 1 ∷ insertion ++ question ++ removal ++ question
@@ -89,6 +96,10 @@ none = 78 ∷ 10 ∷ []
 -- R 3
 abbrev refused3 : List ℕ
 refused3 = 82 ∷ 32 ∷ 51 ∷ 10 ∷ []
+
+-- R 10
+abbrev refused10 : List ℕ
+refused10 = 82 ∷ 32 ∷ 49 ∷ 48 ∷ 10 ∷ []
 
 -- end and a digit
 abbrev end : ℕ → List ℕ
@@ -121,20 +132,25 @@ table =
     ∷ ([], fault 0)
     ∷ (2 ∷ removal, fault 0)
     -- an unknown kind, behind a whole record
-    ∷ (1 ∷ insertion ++ small 5 ++ 4 ∷ small 0, stored0 ++ fault2 3 0)
+    ∷ (1 ∷ insertion ++ small 5 ++ 5 ∷ small 0, stored0 ++ fault2 3 0)
     -- a record that is cut short, and a length that is
     ∷ (1 ∷ insertion ++ small 5 ++ 2 ∷ 0 ∷ 0 ∷ [], stored0 ++ fault2 3 0)
     ∷ (1 ∷ 0 ∷ 0 ∷ [], fault 1)
-    -- bad lengths: 0; above 8,192; not one more than a multiple of 4; without the rate; 9 for kind 02
+    -- bad lengths: 0; above 8,192; not one more than a multiple of 4; without the rate (kinds 01 and 04); 9 for kind 02
     ∷ (1 ∷ small 0 ++ removal, fault 1)
     ∷ (1 ∷ word 0 0 0x20 1 ++ 1 ∷ replicate 8192 0, fault 1)
     ∷ (1 ∷ small 6 ++ 2 ∷ replicate 5 0, fault 1)
     ∷ (1 ∷ small 5 ++ 1 ∷ small 100, fault 1)
+    ∷ (1 ∷ small 9 ++ 4 ∷ small 0 ++ small 100, fault 1)
     ∷ (1 ∷ small 9 ++ 2 ∷ replicate 8 0, fault 1)
     -- "half a hash left over is refused 3"
     ∷ (1 ∷ small 13 ++ 1 ∷ small 100 ++ rate ++ small 7, refused3 ++ end 1)
+    ∷ (1 ∷ small 17 ++ 4 ∷ small 0 ++ small 100 ++ rate ++ small 7, refused3 ++ end 1)
+    -- a corrected take keeps its number, and is what is then heard; of an id that isn't live it is refused
+    ∷ (1 ∷ misheard ++ question ++ correction ++ question, stored0 ++ none ++ stored0 ++ matched ++ end 4)
+    ∷ (1 ∷ correction ++ insertion ++ removal ++ correction, refused10 ++ stored0 ++ removed0 ++ refused10 ++ end 4)
     ∷ []
 
 pub examples : T (all table)
-unfolding zeroed wordsOf decimalIn decimal hexDigits offsetText matchText goodLength stepOf whole recordsFrom linesOf runInsert runRemove runQuery storeOf slicesListed sizesListed sizesOf soundWords soundTests countsFit liveWord stoppedStep deadRow otherEntry vacantEntry deadFine rateFine liveId postingLive anchorFine rmaxFine otherKey keyUnstopped entryUnused setFine readIndex write rowEntries every count allTrue entries keysAscend zeroWord zeroFrom padded keep some? flat sum insertKey place placeAll insertStep removeStep queryStep insertTests plainTests earlyTests queryTests scratchListed inserted erased exceeds stopKeys hashesOf divided malformed rowOf canonical isCanonical isSet inSet largestAnchor gather tooManyVotes candidate bestBelow better modeWithin peakOf distinct seenOf peakGates gates resultAt judgeBy beyond judge counting.countIf sumTo sumToℤ greatest first firstGreatest runEnd mode peakOver millis ratesAgree clampScore wangProminence scoreOf roundToI64 abs maximum nanBits ofBits toBits add sub mul div le lt ofInt isNan round
+unfolding zeroed wordsOf decimalIn decimal hexDigits offsetText matchText goodLength stepOf whole recordsFrom linesOf runInsert runRemove runReplace runQuery storeOf slicesListed sizesListed sizesOf soundWords soundTests countsFit liveWord stoppedStep deadRow otherEntry vacantEntry deadFine rateFine liveId postingLive anchorFine rmaxFine otherKey keyUnstopped entryUnused setFine readIndex write rowEntries every count allTrue entries keysAscend zeroWord zeroFrom padded keep some? flat sum insertKey place placeAll insertStep removeStep replaceStep queryStep insertTests replaceTests plainTests earlyTests queryTests scratchListed inserted erased exceeds stopKeys hashesOf divided malformed rowOf canonical isCanonical isSet inSet largestAnchor gather tooManyVotes candidate bestBelow better modeWithin peakOf distinct seenOf peakGates gates resultAt judgeBy beyond judge counting.countIf sumTo sumToℤ greatest first firstGreatest runEnd mode peakOver millis ratesAgree clampScore wangProminence scoreOf roundToI64 abs maximum nanBits ofBits toBits add sub mul div le lt ofInt isNan round
 examples = tt

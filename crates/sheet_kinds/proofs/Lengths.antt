@@ -1,15 +1,16 @@
--- Laws of a record's length, by its kind byte. Assumes nothing.
-use mathlib.Core.Path.{_≡_, refl, sym}
+-- Laws of a record's length, for every kind together. Assumes nothing.
+use mathlib.Core.Path.{_≡_, refl, sym, ap, _∙_}
 use mathlib.Core.Bool.{Bool, true, false, _&&_, _||_}
-use Prim.Native.Nat.{ℕ, suc, _+_, _*_, _-_, _/_, _%_, _≤_}
+use mathlib.Core.List.{List, [], _∷_}
+use mathlib.Core.Option.{none, some}
+use Prim.Native.Nat.{ℕ, _+_, _*_, _-_, _/_, _%_, _≤_}
 use native.Mathlib.Omega.{arith}
 use lib.Dec.{eqb, leb}
 use lib.ListN.{length}
-use borrow.Author.Tests.{eqb-true, leb-true, ne-eqb}
-use Rattle.lists.proofs.Tests.{test, not-both, and-left, and-right}
-use Rattle.model.specs.Calls.{nothing}
-use Rattle.soundness.specs.Scan.{words}
-use Rattle.sheet_kinds.specs.Kinds.{Kind, insertKind, removeKind, queryKind, least, fitsBy, fitsKind, goodLength}
+use borrow.Author.Tests.{eqb-true, eqb-false, leb-true, ne-eqb}
+use Rattle.lists.specs.Lists.{All}
+use Rattle.lists.proofs.Tests.{test, maybe, not-both, and-left, and-right}
+use Rattle.sheet_kinds.specs.Kinds.{Kind, kinds, lookUp, kindOf, least, fitsKind, fits, goodLength}
 
 -- what a good length says
 pub record Long (len n : ℕ) : Type 0 where
@@ -33,51 +34,41 @@ fits-long len k h =
     let d = leb-true (least k) len (t .3) in
     record { some-byte = a; short = b; words = omega arith; fixed = omega arith }
 
--- the kinds, case by case
-pub good-cases : (C : Type 0) (len b : ℕ) → goodLength len b ≡ true
-    → (b ≡ 1 → Long len 2 → C) → (b ≡ 2 → Long len 1 → C) → (b ≡ 3 → Long len 5 → C) → C
+-- ---- of any kind of the table
+
+-- a length that is good is that of a known kind
+pub good-kind : (len b : ℕ) → goodLength len b ≡ true → (k : Kind) × (kindOf b ≡ some k)
 unfolding goodLength
-good-cases C len b h f g k =
-    test (eqb 1 b) (λ e. f (sym (eqb-true 1 b e)) (fits-long len insertKind (rw e at h))) (λ n1.
-    test (eqb 2 b) (λ e. g (sym (eqb-true 2 b e)) (fits-long len removeKind (rw (n1, e) at h))) (λ n2.
-    test (eqb 3 b) (λ e. k (sym (eqb-true 3 b e)) (fits-long len queryKind (rw (n1, n2, e) at h))) (λ n3.
-    absurd (not-both (rw (n1, n2, n3) at h) refl))))
+good-kind len b h = maybe (kindOf b) (λ e. absurd (not-both h (ap (fits len) e))) (λ k e. (k, e))
 
-module _ (n b : ℕ) (h : goodLength (4 * n + 1) b ≡ true) where
-  pub good-insert : b ≡ 1 → 2 ≤ n
-  good-insert e = good-cases (2 ≤ n) (4 * n + 1) b h (λ _ l. omega (arith, l .fixed)) (λ f _. absurd (omega arith)) (λ f _. absurd (omega arith))
-
-  pub good-remove : b ≡ 2 → 1 ≤ n
-  good-remove e = good-cases (1 ≤ n) (4 * n + 1) b h (λ f _. absurd (omega arith)) (λ _ l. omega (arith, l .fixed)) (λ f _. absurd (omega arith))
-
-  pub good-query : (b ≡ 1 → ⊥) → (b ≡ 2 → ⊥) → (b ≡ 3) × (5 ≤ n)
-  good-query x y = good-cases ((b ≡ 3) × (5 ≤ n)) (4 * n + 1) b h (λ f _. absurd (x f)) (λ f _. absurd (y f)) (λ f l. (f, omega (arith, l .fixed)))
+pub good-by : (len b : ℕ) (k : Kind) → kindOf b ≡ some k → fitsKind len k ≡ goodLength len b
+unfolding goodLength
+good-by len b k e = sym (ap (fits len) e)
 
 -- what every good length says
-pub good-long : (len b : ℕ) → goodLength len b ≡ true → Long len 1
-good-long len b h = good-cases (Long len 1) len b h (λ _ l. less l) (λ _ l. l) (λ _ l. less l)
-  where
-    less : {n : ℕ} → Long len (suc n) → Long len 1
-    less l = record { some-byte = l .some-byte; short = l .short; words = l .words; fixed = omega (arith, l .fixed) }
+pub good-long : (len b : ℕ) → goodLength len b ≡ true → Long len 0
+good-long len b h =
+    let k = good-kind len b h in
+    let l = fits-long len (k .0) (good-by len b (k .0) (k .1) ∙ h) in
+    record { some-byte = l .some-byte; short = l .short; words = l .words; fixed = omega arith }
 
 -- the words of a record whose length is good
 pub good-words : (len b n : ℕ) → goodLength len b ≡ true → n ≡ (len - 1) / 4 → goodLength (4 * n + 1) b ≡ true
 good-words len b n h e = let l = good-long len b h in let f : 4 * n + 1 ≡ len = omega (arith, l .words) in rw f h
 
--- ---- lengths by the kind byte
+-- its fixed fields are among them
+pub good-fields : (n b : ℕ) (k : Kind) → kindOf b ≡ some k → goodLength (4 * n + 1) b ≡ true → k .fields ≤ n
+good-fields n b k e h = omega (arith, fits-long (4 * n + 1) k (good-by (4 * n + 1) b k e ∙ h) .fixed)
 
-pub insert-length : (len b : ℕ) → b ≡ 1 → fitsBy len 9 true ≡ goodLength len b
-unfolding goodLength
-insert-length len b e = rw e
+-- a byte that no row has
+unlisted : (b : ℕ) (ks : List Kind) → All (λ k. b ≡ k .byte → ⊥) ks → lookUp b ks ≡ none
+unlisted b [] h = refl
+unlisted b (k ∷ ks) h = rw (ne-eqb (k .byte) b (λ e. h .0 (sym e))) (unlisted b ks (h .1))
 
-pub remove-length : (len b : ℕ) → b ≡ 2 → fitsBy len 5 false ≡ goodLength len b
+pub no-length : (len b : ℕ) → All (λ k. b ≡ k .byte → ⊥) kinds → false ≡ goodLength len b
 unfolding goodLength
-remove-length len b e = rw e
+no-length len b h = sym (ap (fits len) (unlisted b kinds h))
 
-pub query-length : (len b : ℕ) → b ≡ 3 → fitsBy len 21 true ≡ goodLength len b
-unfolding goodLength
-query-length len b e = rw e
-
-pub no-length : (len b : ℕ) → (b ≡ 1 → ⊥) → (b ≡ 2 → ⊥) → (b ≡ 3 → ⊥) → false ≡ goodLength len b
-unfolding goodLength
-no-length len b x y z = rw (ne-eqb 1 b (λ e. x (sym e)), ne-eqb 2 b (λ e. y (sym e)), ne-eqb 3 b (λ e. z (sym e)))
+-- the one kind that is left, where a byte is none of the others'
+pub good-else : (len b c : ℕ) → goodLength len b ≡ true → ((b ≡ c → ⊥) → All (λ k. b ≡ k .byte → ⊥) kinds) → b ≡ c
+good-else len b c h f = test (eqb b c) (λ e. eqb-true b c e) (λ e. absurd (not-both h (sym (no-length len b (f (eqb-false b c e))))))

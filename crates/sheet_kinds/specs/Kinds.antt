@@ -8,7 +8,7 @@ use lib.ListN.{getD, drop, replicate}
 use lib.Dec.{eqb, leb}
 use lib.Ieee.{binary32, ofBits}
 use Rattle.model.specs.Query.{Query}
-use Rattle.model.specs.Calls.{Call, insert, remove, query}
+use Rattle.model.specs.Calls.{Call, insert, remove, replace, query}
 use Rattle.wang_judge.specs.Scheme.{configOf, wang, queryWith}
 
 -- "scratch for 512 votes", 6 words each
@@ -47,6 +47,10 @@ queryOf ws = queryWith (configOf (getD ws 0 0) (getD ws 1 0) (getD ws 2 0) (getD
 abbrev pub queryCall : List ℕ → Call wang
 queryCall ws = query (queryOf ws)
 
+-- document 02: "kind 04 (id, limit, rate bits, hashes)"
+abbrev pub replaceCall : List ℕ → Call wang
+replaceCall ws = replace (getD ws 0 0) (getD ws 1 0) (getD ws 2 0) (drop 3 ws)
+
 abbrev pub insertKind : Kind
 insertKind = record { byte = 1; fields = 2; hashes = true; call = insertCall }
 
@@ -56,8 +60,11 @@ removeKind = record { byte = 2; fields = 1; hashes = false; call = removeCall }
 abbrev pub queryKind : Kind
 queryKind = record { byte = 3; fields = 5; hashes = true; call = queryCall }
 
+abbrev pub replaceKind : Kind
+replaceKind = record { byte = 4; fields = 3; hashes = true; call = replaceCall }
+
 abbrev pub kinds : List Kind
-kinds = insertKind ∷ removeKind ∷ queryKind ∷ []
+kinds = insertKind ∷ removeKind ∷ queryKind ∷ replaceKind ∷ []
 
 -- the row of a kind byte
 abbrev pub lookUp : ℕ → List Kind → Option Kind

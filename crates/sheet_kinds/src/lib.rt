@@ -21,5 +21,8 @@ pub fn good_length(len: usize, kind: u8) -> bool
     if kind == 3 {
         return fits_by(len, 21, true);
     }
+    if kind == 4 {
+        return fits_by(len, 13, true);
+    }
     false
 }

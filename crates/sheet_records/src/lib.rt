@@ -6,7 +6,7 @@ ghost use lib.ListN.{length, getD};
 ghost use Rattle.model.specs.Run.{run};
 ghost use Rattle.soundness.specs.Scan.{lent};
 ghost use Rattle.wang_judge.specs.Scheme.{wang};
-ghost use Rattle.sheet_kinds.specs.Kinds.{zeroScratch, insertCall, removeCall, queryCall, kindOf, goodLength};
+ghost use Rattle.sheet_kinds.specs.Kinds.{zeroScratch, insertCall, removeCall, queryCall, replaceCall, kindOf, goodLength};
 ghost use Rattle.sheet_text.specs.Put.{lineMost};
 ghost use Rattle.sheet_records.specs.Step.{lineAndStore, stepBy, stepOf, Stepped};
 use wang::WangIndex;
@@ -92,6 +92,26 @@ fn query_record(
     sheet_lines::put_finding(line, at, answer)
 }
 
+// 04: id, limit, rate bits, hashes.
+fn replace_record(
+    fields: &[u32],
+    refs: &mut [u32],
+    postings: &mut [u32],
+    stopped: &mut [u32],
+    line: &mut [u8],
+    at: usize,
+) -> usize
+    requires { ⌜ (3 ≤ length (now fields)) × (at + lineMost ≤ length (now line)) ⌝ }
+    ensures { λ r. ⌜ Stepped (now (line .entry)) (now (line .exit)) at r (lent (refs .exit) (postings .exit) (stopped .exit))
+        (lineAndStore (now (fields .entry)) (run wang (lent (refs .entry) (postings .entry) (stopped .entry)) (replaceCall (now (fields .entry))))) ⌝ }
+{
+    let id = fields[0];
+    let limit = fields[1];
+    let rate = fields[2];
+    let answer = WangIndex::replace(refs, postings, stopped, id, &fields[3..], rate, limit);
+    sheet_lines::put_insertion(line, at, answer)
+}
+
 // A record by its kind byte and its fields.
 fn run_record(
     kind: u8,
@@ -114,6 +134,9 @@ fn run_record(
     }
     if kind == 2 {
         return remove_record(fields, refs, postings, stopped, line, at);
+    }
+    if kind == 4 {
+        return replace_record(fields, refs, postings, stopped, line, at);
     }
     query_record(fields, refs, postings, stopped, scratch, line, at)
 }

@@ -3,9 +3,7 @@ use mathlib.Core.Path.{_∙_}
 use native.Mathlib.Omega.{arith}
 use borrow.Author.Needs.{needs}
 use mathlib.Core.List.{[], _∷_}
-use Rattle.remove.proofs.Erased.{few-stay}
-use borrow.Author.Needs.{needs}
-use borrow.Author.Needs.{needs}
+use Rattle.postings.proofs.Compact.{staying-few}
 use Rattle.remove.proofs.erase.Statement.{statement}
 use Rattle.remove.proofs.erase.Tie as tie
 
@@ -24,7 +22,7 @@ retain-requires c κs = (record { field = omega arith; room = rw (c .before .bef
 cast-vacate : tie.Need-cast-vacate
 cast-vacate c = let s = c .before .before .before .before .before .before .before .before .before .before in
     let r = c .before .before .before .retain in
-    omega (arith, r .ensures .0, few-stay (s .args .w) (c .before .before .before .before .before .before .size .result) 1 (s .args .id ∷ []) (s .args .posts .now), c .before .before .before .before .before .before .size .ensures, s .pre .few)
+    omega (arith, r .ensures .0, staying-few (s .args .w) (c .before .before .before .before .before .before .size .result) 1 (s .args .id ∷ []) (s .args .posts .now), c .before .before .before .before .before .before .size .ensures, s .pre .few)
 
 vacate-requires : tie.Need-vacate-requires
 vacate-requires c κs = search needs

@@ -1,0 +1,3 @@
+-- What a replacement answers and leaves.
+pub mod Refusals
+pub mod Swapped
