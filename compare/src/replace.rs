@@ -427,26 +427,35 @@ fn histories<I: Index>(check: &mut Check) {
 // ---- takes longer than one can store
 
 /// A sound store may have a recording of more postings than an insertion can
-/// have hashes: it goes like any other.
+/// have hashes, or than the library lists of one: it goes like any other.
 fn long_takes<I: Index>(check: &mut Check) {
-    const LONG: u32 = 20_000;
-    const KEYS: u32 = 5000;
+    const LISTED: u32 = 40_960;
     let met = &mut Met::default();
+    for long in [20_000, LISTED - 1, LISTED, LISTED + 1, 60_000] {
+        long_take::<I>(check, met, long);
+    }
+    met.expect(&[3, 6]);
+}
+
+fn long_take<I: Index>(check: &mut Check, met: &mut Met, long: u32) {
+    const KEYS: u32 = 5000;
     let most = HASHES as u32;
     let take = |count: u32| hashes_of::<I>((0..count).map(|place| place * 7 % KEYS));
-    let takes = [LONG, 100].map(|count| I::fingerprint(&take(count), RATE));
+    let takes = [long, 100].map(|count| I::fingerprint(&take(count), RATE));
     let content = I::build(&takes, u32::MAX).content();
-    let sizes = Sizes::new(2, (LONG + 100) as usize, KEYS as usize);
+    let sizes = Sizes::new(2, (long + 100) as usize, KEYS as usize);
     let store = write::<I>(&content, &[255, 1], sizes);
+    // No key has more once the short take is stored again.
+    let limit = long.div_ceil(KEYS) + 1;
     let calls = [
         (replace(0, take(0), 0), [2, 0, 100, 0]),
         (replace(0, take(100), 1), [2, 0, 0, 100]),
         (replace(0, take(most - 1), 3), [2, 0, most + 99, 0]),
         (replace(0, take(most), 3), [2, 0, most + 100, 0]),
         (replace(0, take(most), 0), [2, 0, 0, KEYS]),
-        (replace(0, take(most + 1), 3), [2, 0, LONG + 100, 0]),
-        (replace(1, take(100), 5), [2, 0, LONG + 100, 0]),
-        (replace(1, take(most), 5), [2, 0, LONG + 100, 0]),
+        (replace(0, take(most + 1), 3), [2, 0, long + 100, 0]),
+        (replace(1, take(100), limit), [2, 0, long + 100, 0]),
+        (replace(1, take(most), limit), [2, 0, long + 100, 0]),
     ];
     for (call, header) in calls {
         let mut trial = Trial::<I>::new(store.clone());
@@ -455,5 +464,4 @@ fn long_takes<I: Index>(check: &mut Check) {
         let again = replace(0, take(most), u32::MAX);
         swap(check, met, &mut trial, again);
     }
-    met.expect(&[3, 6]);
 }

@@ -176,6 +176,9 @@ module _ (w : ℕ) (m : Words) (w2 : 2 ≤ w) (l : slicesListed w m ≡ true) (s
   pub none-at-rows : (h : Counts) → CountsOf (m .references) h → staying w (h .postings) 1 (h .rows ∷ []) (m .postings) ≡ entries w (getD (m .references) 2 0) (m .postings)
   none-at-rows h c = rw (c .postings, c .rows) (staying-all w (getD (m .references) 2 0) 1 (getD (m .references) 0 0) (m .postings) w2 (λ i l e. omega (arith, facts .id-within i l)))
 
+  pub none-of-them : (h : Counts) → CountsOf (m .references) h → h .postings ≡ length (staying w (h .postings) 1 (h .rows ∷ []) (m .postings))
+  none-of-them h c = c .postings ∙ sym (ap length (none-at-rows h c) ∙ length-entries w (getD (m .references) 2 0) (m .postings))
+
 positive : (a : ℕ) → (a ≡ 0 → ⊥) → 0 < a
 positive zero h = absurd (h refl)
 positive (suc a) h = omega arith

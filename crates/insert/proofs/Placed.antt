@@ -69,8 +69,8 @@ five w r a b = le-trans (mul-le-mul-left w b) (omega arith)
 pub width : (w : ℕ) → 1 ≤ w → w - 1 + 1 ≡ w
 width w h = omega arith
 
-pub room-for-news : (w m L : ℕ) → 3 ≤ w → w ≤ 5 → m ≤ 8192 → L ≡ 40960 → (w - 1 + 1) * m ≤ L
-room-for-news w m L a b c e = rw (width w (omega arith), e) (five w m b c)
+pub room-for-news : (w m L : ℕ) → 3 ≤ w → w ≤ 5 → m ≤ 8192 → 40960 ≤ L → (w - 1 + 1) * m ≤ L
+room-for-news w m L a b c e = rw (width w (omega arith)) (le-trans (five w m b c) e)
 
 module _ (w p : ℕ) (ps words : List ℕ) (order : List ℤ) (m : ℕ) (overs : List ℕ) (n id : ℕ) (P : Placing w p ps words order m overs n) where
   abbrev gone : List ℕ
@@ -143,7 +143,7 @@ module _ (w p : ℕ) (ps words : List ℕ) (order : List ℤ) (m : ℕ) (overs :
     pub result : merged ps1 w q news r ≡ padded (length ps) (flat (placedEntries w p ps words id (placesIn m order) (take n overs)))
 
   pub merge : (ps1 news : List ℕ) (q r : ℕ) → q ≡ length (staying w p 0 (take n overs) ps) → ps1 ≡ retained w p 0 (take n overs) ps
-      → r ≡ length (without (w - 1) words (take n overs) (placesIn m order)) → length news ≡ 40960
+      → r ≡ length (without (w - 1) words (take n overs) (placesIn m order)) → 40960 ≤ length news
       → take (w * r) news ≡ flat (entriesOf (w - 1) words id (without (w - 1) words (take n overs) (placesIn m order))) → Merge ps1 news q r
   unfolding placedEntries
   merge ps1 news q r eq e1 er big en =
@@ -159,7 +159,7 @@ module _ (w p : ℕ) (ps words : List ℕ) (order : List ℤ) (m : ℕ) (overs :
       let olds : entries w q ps1 ≡ stay = held w q ps1 stay wide-stay eq qroom is1 in
       let lr : length new ≡ r = length-new ∙ sym er in
       let long : length (flat new) ≡ w * r = length-flat w new wide-new ∙ rw lr in
-      let nroom : w * r ≤ length news = rw big (five w r (P .narrow) (omega (arith, P .few))) in
+      let nroom : w * r ≤ length news = le-trans (five w r (P .narrow) (omega (arith, P .few))) big in
       let news-are : entries w r news ≡ new =
       sym (entries-take w r news) ∙ ap (entries w r) en
       ∙ ap (entries w r) (sym (append-nil (flat new))) ∙ ap (λ (k : ℕ). entries w k (flat new ++ [])) (sym lr) ∙ entries-flat w new [] wide-new in

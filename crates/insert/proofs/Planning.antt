@@ -8,13 +8,11 @@ use lib.IntN.{ℤ}
 use lib.ListN.{length, getD, take, length-append}
 use lib.Seq.{length-take-le}
 use lib.Dec.{ltb}
-use borrow.Author.Tests.{le-ltb}
 use Rattle.lists.proofs.Tests.{not-both}
 use Rattle.lists.proofs.Keep.{length-keep}
 use Rattle.sorting.specs.Sort.{sortZ}
 use Rattle.model.specs.Fingerprints.{hashCount}
 use Rattle.postings.specs.Retain.{staying}
-use Rattle.postings.proofs.Compact.{staying-few}
 use Rattle.insert_merge.specs.Order.{upTo, unstoppedAt, taken, packs, ordered, keysIn, otherKeys, ByKey, OverKeys}
 use Rattle.insert_merge.proofs.Ordered.{length-ordered, sort-packs, is-by-key}
 use Rattle.insert.specs.Planned.{Plannable, Planned}
@@ -28,10 +26,6 @@ length-upTo (suc n) = let ih = length-upTo n in rw length-append (omega arith)
 pub few-taken : (v : ℕ) (words stopped : List ℕ) (n : ℕ) → length (taken v words stopped n) ≤ n
 unfolding taken
 few-taken v words stopped n = omega (arith, length-keep (unstoppedAt v words stopped) (upTo n), length-upTo n)
-
--- where all postings leave room, the others do
-pub others-fit : (w p id : ℕ) (ps : List ℕ) (m room : ℕ) → p + m ≤ room → ltb room (length (staying w p 1 (id ∷ []) ps) + m) ≡ false
-others-fit w p id ps m room h = le-ltb room (length (staying w p 1 (id ∷ []) ps) + m) (omega (arith, staying-few w p 1 (id ∷ []) ps))
 
 module _ {w p k : ℕ} {ps ss hashes : List ℕ} (A : Plannable w p k ps ss hashes) {m : ℕ} (many : m ≡ length (taken (w - 1) hashes (take k ss) (hashCount w hashes))) where
   pub few-new : m ≤ 8192

@@ -30,7 +30,7 @@ pub enum Insertion {
 }
 
 // The first p entries, less those of the first n keys of overs, with the hashes at the places in order placed among them, less those of
-// such keys, as entries of recording id; how many there are.
+// such keys, as entries of recording id; how many there are. The new entries are laid out in `news` first.
 fn place_news(
     posts: &mut [u32],
     w: usize,
@@ -41,16 +41,16 @@ fn place_news(
     m: usize,
     overs: &[u32],
     n: usize,
+    news: &mut [u32],
 ) -> usize
-    requires { ⌜ Placing w p (now posts) (now hashes) (now order) m (now overs) n ⌝ }
+    requires { ⌜ Placing w p (now posts) (now hashes) (now order) m (now overs) n × (40960 ≤ length (now news)) ⌝ }
     ensures { λ r. ⌜ r ≡ length (placedEntries w p (now (posts .entry)) (now (hashes .entry)) id (placesIn m (now (order .entry))) (take n (now (overs .entry)))) ⌝ }
     ensures { λ _. ⌜ now (posts .exit) ≡ padded (length (now (posts .entry)))
         (flat (placedEntries w p (now (posts .entry)) (now (hashes .entry)) id (placesIn m (now (order .entry))) (take n (now (overs .entry))))) ⌝ }
 {
-    let mut news = [0u32; 40960];
-    let r = insert_merge::write_news(&mut news, order, m, hashes, w - 1, id, overs, n);
-    let q = postings::retain(posts, w, p, 0, overs, n);
-    insert_merge::merge_in(posts, w, q, &news, r);
+    let r = insert_merge::write_news(news, order, m, hashes, w - 1, id, overs, n);
+    let q = postings::retain(posts, w, p, 0, overs, n, overs, 0);
+    insert_merge::merge_in(posts, w, q, news, r);
     q + r
 }
 
@@ -90,6 +90,13 @@ fn put_recording(refs: &mut [u32], c: Counts, id: usize, row: Row, p: usize, k: 
     }
 }
 
+// What an insertion would do: the number it is refused by, 0 where it is not; how many hashes are not skipped, and how many keys are stopped.
+pub struct Plan {
+    pub number: u32,
+    pub hashes: usize,
+    pub keys: usize,
+}
+
 // Writes a recording that is accepted; its id.
 pub fn write_recording(
     refs: &mut [u32],
@@ -100,23 +107,36 @@ pub fn write_recording(
     rate: u32,
     set: u32,
     order: &[i64],
-    m: usize,
     overs: &[u32],
-    n: usize,
+    plan: Plan,
+    news: &mut [u32],
 ) -> u32
-    requires { ⌜ Writable w (now refs) (now posts) (now stops) (now hashes) (now order) m (now overs) n ⌝ }
+    requires { ⌜ Writable w (now refs) (now posts) (now stops) (now hashes) (now order) (plan .hashes) (now overs) (plan .keys) × (40960 ≤ length (now news)) ⌝ }
     ensures { λ r. ⌜ r ≡ idIn (now (refs .entry)) ⌝ }
     ensures { λ _. ⌜ now (refs .exit) ≡ recorded (now (refs .entry)) (getD (now (refs .entry)) 0 0) (getD (now (refs .entry)) 1 0) (idIn (now (refs .entry))) (canonical rate)
         (cond (hasRmax w) (largestAnchor (hashesOf w (now (hashes .entry)))) 0) set
-        (length (postingsIn w (now (refs .entry)) (now (posts .entry)) (now (hashes .entry)) (now (order .entry)) m (now (overs .entry)) n)) (getD (now (refs .entry)) 3 0 + n) ⌝ }
+        (length (postingsIn w (now (refs .entry)) (now (posts .entry)) (now (hashes .entry)) (now (order .entry)) (plan .hashes) (now (overs .entry)) (plan .keys))) (getD (now (refs .entry)) 3 0 + plan .keys) ⌝ }
     ensures { λ _. ⌜ now (posts .exit) ≡ padded (length (now (posts .entry)))
-        (flat (postingsIn w (now (refs .entry)) (now (posts .entry)) (now (hashes .entry)) (now (order .entry)) m (now (overs .entry)) n)) ⌝ }
-    ensures { λ _. ⌜ now (stops .exit) ≡ padded (length (now (stops .entry))) (placeAll (λ x. x) (take n (now (overs .entry))) (take (getD (now (refs .entry)) 3 0) (now (stops .entry)))) ⌝ }
+        (flat (postingsIn w (now (refs .entry)) (now (posts .entry)) (now (hashes .entry)) (now (order .entry)) (plan .hashes) (now (overs .entry)) (plan .keys))) ⌝ }
+    ensures { λ _. ⌜ now (stops .exit) ≡ padded (length (now (stops .entry))) (placeAll (λ x. x) (take (plan .keys) (now (overs .entry))) (take (getD (now (refs .entry)) 3 0) (now (stops .entry)))) ⌝ }
 {
     let h = rows::header(refs);
     let k = h.stopped;
+    let m = plan.hashes;
+    let n = plan.keys;
     let id = new_id(refs, h);
-    let q = place_news(posts, w, h.postings, hashes, id as u32, order, m, overs, n);
+    let q = place_news(
+        posts,
+        w,
+        h.postings,
+        hashes,
+        id as u32,
+        order,
+        m,
+        overs,
+        n,
+        news,
+    );
     stop_keys(stops, k, overs, n);
     put_recording(refs, h, id, rows::row_of(hashes, w, rate, set), q, k + n);
     id as u32
@@ -134,16 +154,12 @@ fn is_full(refs: &[u32]) -> bool
     h.rows == (refs.len() - rows::HEAD_WIDTH) / rows::ROW_WIDTH
 }
 
-// Whether m more postings do not fit beside the p that there are, less those of recording id. Those of id are counted only where it matters.
-fn lacks_room(posts: &[u32], w: usize, p: usize, id: u32, m: usize) -> bool
-    requires { ⌜ (2 ≤ w) × (w * p ≤ length (now posts)) × (m < 2 ^ 32) ⌝ }
-    ensures { λ r. ⌜ r ≡ ltb (length (now (posts .entry)) / w) (length (staying w p 1 (id ∷ []) (now (posts .entry))) + m) ⌝ }
+// Whether m more postings do not fit beside so many others.
+fn lacks_room(posts: &[u32], w: usize, others: usize, m: usize) -> bool
+    requires { ⌜ (2 ≤ w) × (others ≤ length (now posts)) × (m < 2 ^ 32) ⌝ }
+    ensures { λ r. ⌜ r ≡ ltb (length (now (posts .entry)) / w) (others + m) ⌝ }
 {
-    let room = posts.len() / w;
-    if p + m <= room {
-        return false;
-    }
-    room < postings::count_others(posts, w, p, 1, id) + m
+    posts.len() / w < others + m
 }
 
 // 7 where so many stopped keys do not fit, else 0.
@@ -156,15 +172,8 @@ fn keys_refusal(room: usize, keys: usize) -> u32
     0
 }
 
-// What an insertion would do: the number it is refused by, 0 where it is not; how many hashes are not skipped, and how many keys are stopped.
-pub struct Plan {
-    pub number: u32,
-    pub hashes: usize,
-    pub keys: usize,
-}
-
-// Plans an insertion into a store in which so much is in use, less the postings of recording id: refusals 6 and 7, the hashes that are not skipped,
-// in order, and the keys that it stops.
+// Plans an insertion into a store in which so much is in use, less the postings of recording id, beside which there are so many others: refusals 6
+// and 7, the hashes that are not skipped, in order, and the keys that it stops.
 pub fn plan_insertion(
     order: &mut [i64],
     overs: &mut [u32],
@@ -174,9 +183,11 @@ pub fn plan_insertion(
     stops: &[u32],
     c: Counts,
     id: u32,
+    others: usize,
     limit: u32,
 ) -> Plan
     requires { ⌜ Plannable w (c .postings) (c .stopped) (now posts) (now stops) (now hashes) ⌝ }
+    requires { ⌜ others ≡ length (staying w (c .postings) 1 (id ∷ []) (now posts)) ⌝ }
     requires { ⌜ (16384 ≤ length (now order)) × (8192 ≤ length (now overs)) ⌝ }
     ensures { λ r. ⌜ Planned w limit (length (now (posts .entry)) / w) (length (now (stops .entry))) (staying w (c .postings) 1 (id ∷ []) (now (posts .entry)))
         (take (c .stopped) (now (stops .entry))) (now (hashes .entry)) (now (order .exit)) (now (overs .exit)) r ⌝ }
@@ -185,7 +196,7 @@ pub fn plan_insertion(
     let k = c.stopped;
     let v = w - 1;
     let m = insert_merge::collect(order, hashes, v, hashes.len() / v, stops, k);
-    if lacks_room(posts, w, p, id, m) {
+    if lacks_room(posts, w, others, m) {
         return Plan {
             number: 6,
             hashes: m,
@@ -229,11 +240,13 @@ fn admit(
         stops,
         h,
         h.rows as u32,
+        h.postings,
         limit,
     );
     if r.number != 0 {
         return Insertion::Refused(r.number);
     }
+    let mut news = [0u32; 40960];
     Insertion::Stored(write_recording(
         refs,
         posts,
@@ -243,9 +256,9 @@ fn admit(
         rate,
         set,
         &order,
-        r.hashes,
         &overs,
-        r.keys,
+        r,
+        &mut news,
     ))
 }
 

@@ -11,7 +11,7 @@ use Rattle.model.specs.Fingerprints.{Fingerprint, fingerprintOf, malform
 use Rattle.model.specs.Rows.{Row}
 use Rattle.model.specs.Index.{nextId, newId, isLive, inserted, erased}
 use Rattle.model.specs.Query.{Scheme, Query, Catalog, catalog, tooManyVotes}
-use Rattle.model.specs.Calls.{Sizes, Store, holds, content, isUnlisted, Answer, stored, removed, count, Call, build, insert, remove, replace, liveCount, query, refusal, insertTests, plainTests, scratchListed, earlyTests, queryTests, outcome, setOf, buildStep, insertStep, removeStep, replaceStep, countStep, queryStep, answerOf, stepOf, step}
+use Rattle.model.specs.Calls.{Sizes, Store, holds, content, isUnlisted, isUnsound, Answer, stored, removed, count, Call, build, insert, remove, replace, liveCount, query, refusal, insertTests, plainTests, scratchListed, earlyTests, queryTests, outcome, setOf, buildStep, insertStep, removeStep, replaceStep, countStep, queryStep, answerOf, stepOf, step}
 use Rattle.model.specs.Sound.{SoundStore}
 use Rattle.model.specs.History.{withRecording, withoutRecording, storedId, withRecordingIf, after, leaves, answers, replay, history, answerFrom}
 use Rattle.model.specs.Claim.{Accepted, KeysKept, OldOrNew, Moment, AfterInsert, AfterRemove, ClaimedAt, momentAfter, Demand3, FromHistory}
@@ -129,14 +129,18 @@ module _ (S : Scheme) (z : Sizes) (w2 : 2 ≤ S .width) where
 
   -- ---- replace: from before it to what the removal leaves, and from there to after it
 
+  -- a removal that answers yes
+  pub removal-done : (s : Store) (id : ℕ) → isUnlisted s ≡ false → isUnsound s ≡ false → isLive (getD (content s .rows) id none) ≡ true → step S z s (remove id) ≡ (removed true, holds (erased id (content s)))
+  unfolding removeStep plainTests
+  removal-done s id l u a = rw (l, u, a)
+
   module _ (s : Store) (c : Catalog) (I : Inv w z s c) (id limit rate : ℕ) (words : List ℕ) where
     abbrev new : Fingerprint
     new = fingerprintOf w rate (setOf (getD (content s .rows) id none)) words
 
     module _ (e : refusal (replaceStep w z s id limit rate words .tests) ≡ none) where
       pub removal-is : step S z s (remove id) ≡ (removed true, holds (erased id (content s)))
-      unfolding removeStep plainTests
-      removal-is = rw (replaced-listed w z w2 s id limit rate words e, replaced-read w z w2 s id limit rate words e, replaced-live w z w2 s id limit rate words e)
+      removal-is = removal-done s id (replaced-listed w z w2 s id limit rate words e) (replaced-read w z w2 s id limit rate words e) (replaced-live w z w2 s id limit rate words e)
 
       pub replaced-is : step S z s (replace id limit rate words) ≡ (stored id, holds (inserted w limit new (erased id (content s))))
       unfolding replaceStep insertStep removeStep

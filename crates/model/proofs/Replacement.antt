@@ -24,7 +24,7 @@ use Rattle.model.specs.Replacement.{isRoom, replacement, removal, insert
 use Rattle.model.proofs.Parts.{member-stopKeys, getD-putRow, newId-erased}
 use Rattle.model.proofs.Stores.{store-sound}
 use Rattle.model.proofs.Preserved.{inside, Inv, start-inv, as-insertion, replaced-live, then-accepted}
-use Rattle.model.proofs.Demand3.{removal-is, replaced-is}
+use Rattle.model.proofs.Demand3.{removal-done, removal-is, replaced-is}
 use Rattle.model.proofs.Run.{step-refused, run-is, run-answers, run-sizes, run-leaves, run-refused}
 
 -- ---- tables: a row before the one that applies doesn't
@@ -112,9 +112,8 @@ module _ (S : Scheme) (z : Sizes) (w2 : 2 ≤ S .width) (s : Store) (id limit ra
       (λ u. let r = rw (l, u) at e in let o : _≡_ {A = ℕ} 0 1 = cc in absurd (omega arith))
       (λ u. let r : removed (isLive (getD (content s .rows) id none)) ≡ removed true = rw (l, u) at e in record { listed = l; read = u; live = cc }))
 
-  pub removal-done : Removes → step S z s (remove id) ≡ (removed true, holds (erased id (content s)))
-  unfolding removeStep plainTests
-  removal-done R = rw (R .listed, R .read, R .live)
+  removal-yes : Removes → step S z s (remove id) ≡ (removed true, holds (erased id (content s)))
+  removal-yes R = removal-done S z w2 s id (R .listed) (R .read) (R .live)
 
   -- refused for room: the rows before don't apply
   pub for-room : (n : ℕ) → isRoom n ≡ true → refusal (replaceStep w z s id limit rate words .tests) ≡ some n → Removes
@@ -175,14 +174,14 @@ module _ (S : Scheme) (w2 : 2 ≤ S .width) (m : Words) (id limit rate : ℕ) (w
 
   module _ (R : Removes S (sizesOf (S .width) m) w2 (storeOf (S .width) m) id limit rate words) where
     left : step S (sizesOf (S .width) m) (storeOf (S .width) m) (remove id) .1 ≡ holds (erased id (content (storeOf (S .width) m)))
-    left = ap (λ (o : Answer × Store). o .1) (removal-done S z w2 s id limit rate words R)
+    left = ap (λ (o : Answer × Store). o .1) (removal-yes S z w2 s id limit rate words R)
 
     same-table : refusal (replaceStep (S .width) (sizesOf (S .width) m) (storeOf (S .width) m) id limit rate words .tests)
         ≡ refusal (insertTests (sizesOf (S .width) m) (holds (erased id (content (storeOf (S .width) m)))) (malformed (S .width) referenceMost words) limit new)
     same-table = as-insertion (S .width) z w2 s id limit rate words (inv .sound) (R .listed) (R .read) (R .live)
 
     yes : removal S m id limit rate words .0 ≡ removed true
-    yes = run-answers S w2 m (remove id) ∙ ap (λ (o : Answer × Store). o .0) (removal-done S z w2 s id limit rate words R)
+    yes = run-answers S w2 m (remove id) ∙ ap (λ (o : Answer × Store). o .0) (removal-yes S z w2 s id limit rate words R)
 
     inserts : insertion S m id limit rate words .0 ≡ step S (sizesOf (S .width) m) (holds (erased id (content (storeOf (S .width) m)))) (insert limit rate (setOf (getD (content (storeOf (S .width) m) .rows) id none)) words) .0
     inserts = ap (λ (o : Answer × Words). o .0) (insertion-is left)
@@ -262,7 +261,7 @@ module _ (w : ℕ) (w2 : 2 ≤ w) (m m′ : Words) (id limit rate : ℕ) (words 
   pub left-sound : (slicesListed w m′ ≡ true) × (soundWords w m′ ≡ true)
   left-sound =
       let R = removes (storing w) (sizesOf w m) w2 (storeOf w m) id limit rate words (sym (run-answers (storing w) w2 m (remove id)) ∙ yes-said) in
-      store-read w m′ (erased id (content (storeOf w m))) (ap (λ (o : Answer × Words). storeOf w (o .1)) (sym y) ∙ run-leaves (storing w) w2 m (remove id) ∙ ap (λ (o : Answer × Store). o .1) (removal-done (storing w) (sizesOf w m) w2 (storeOf w m) id limit rate words R))
+      store-read w m′ (erased id (content (storeOf w m))) (ap (λ (o : Answer × Words). storeOf w (o .1)) (sym y) ∙ run-leaves (storing w) w2 m (remove id) ∙ ap (λ (o : Answer × Store). o .1) (removal-yes (storing w) (sizesOf w m) w2 (storeOf w m) id limit rate words R))
 
 -- ---- a corrected take
 

@@ -98,7 +98,7 @@ module _ (w p f : ℕ) (xs s : List ℕ) (room : w * p ≤ length s) where
 
 module _ (w f : ℕ) (xs s₀ s : List ℕ) (p i q : ℕ) (within : Within w p f s₀ 0) (ip : i < p) (d : Done w f xs s₀ s i q) where
   -- words behind entry i are as they were
-  same-word : (j : ℕ) → i ≤ j → getD s (w * j + f) 0 ≡ getD s₀ (w * j + f) 0
+  pub same-word : (j : ℕ) → i ≤ j → getD s (w * j + f) 0 ≡ getD s₀ (w * j + f) 0
   same-word j h =
       let m = mul-le-mul-left w h in
       let e : w * j + f ≡ w * i + (w * j + f - w * i) = omega arith in

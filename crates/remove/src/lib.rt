@@ -2,6 +2,8 @@
 ghost use mathlib.Core.Path.{_≡_};
 ghost use Prim.Native.Nat.{_+_, _*_, _≤_};
 ghost use lib.ListN.{length, getD};
+ghost use lib.Dec.{eqb};
+ghost use Rattle.postings.specs.Retain.{Listed};
 ghost use Rattle.model.specs.Soundness.{liveId};
 ghost use Rattle.model.specs.Run.{runCount, runRemove};
 ghost use Rattle.soundness.specs.Scan.{lent};
@@ -69,15 +71,16 @@ fn vacate(refs: &mut [u32], id: u32, held: u32)
     rows::put_header(refs, n, v + 1, held, k);
 }
 
-// The postings of id go, and it is vacated.
-pub fn erase(refs: &mut [u32], posts: &mut [u32], w: usize, id: u32)
+// The postings of id go, of which a list may name the first c, and it is vacated.
+pub fn erase(refs: &mut [u32], posts: &mut [u32], w: usize, id: u32, list: &[u32], c: usize)
     requires { ⌜ Erasable w (now refs) (now posts) id ⌝ }
+    requires { ⌜ Listed (eqb id) w (getD (now refs) 2 0) 1 (now posts) (now list) c ⌝ }
     ensures { λ _. ⌜ now (refs .exit) ≡ vacated (now (refs .entry)) id (length (others w (now (refs .entry)) (now (posts .entry)) id)) ⌝ }
     ensures { λ _. ⌜ now (posts .exit) ≡ othersLeft w (now (refs .entry)) (now (posts .entry)) id ⌝ }
 {
     let p = size(refs[2]);
     let ids = [id];
-    let q = postings::retain(posts, w, p, 1, &ids, 1);
+    let q = postings::retain(posts, w, p, 1, &ids, 1, list, c);
     vacate(refs, id, q as u32);
 }
 
@@ -94,6 +97,7 @@ pub fn remove(refs: &mut [u32], posts: &mut [u32], stops: &[u32], w: usize, id: 
     if !is_live(refs, id) {
         return Removal::Removed(false);
     }
-    erase(refs, posts, w, id);
+    // no posting is named
+    erase(refs, posts, w, id, stops, 0);
     Removal::Removed(true)
 }

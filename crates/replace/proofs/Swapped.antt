@@ -3,7 +3,7 @@ use mathlib.Core.Path.{_≡_, sym, ap, ap₂, _∙_}
 use mathlib.Core.Bool.{true, false, cond}
 use mathlib.Core.List.{List, [], _∷_}
 use mathlib.Core.Option.{none}
-use Prim.Native.Nat.{ℕ, _+_, _/_, _≤_, _<_}
+use Prim.Native.Nat.{ℕ, _+_, _-_, _/_, _≤_, _<_}
 use native.Mathlib.Omega.{arith}
 use lib.IntN.{ℤ}
 use lib.ListN.{length, getD, take, drop}
@@ -22,7 +22,7 @@ use Rattle.model.proofs.Facts.{Facts, live-id}
 use Rattle.model.proofs.Written.{row-word}
 use Rattle.model.proofs.Stores.{sound-facts, store-holds}
 use Rattle.model.proofs.Replacement.{replace-refused, replace-stored, left-sound}
-use Rattle.postings.specs.Retain.{staying}
+use Rattle.postings.specs.Retain.{staying, Noted}
 use Rattle.postings.proofs.Compact.{retained-entries, length-retained}
 use Rattle.rows.specs.declared.Counts.{Counts}
 use Rattle.rows.specs.References.{CountsOf, headerPut}
@@ -57,6 +57,10 @@ module _ (w : ℕ) (rs ps ss hashes : List ℕ) (id : ℕ) (D : Replaceable w (w
 
   pub may-plan : (h : Counts) → CountsOf rs h → Plannable w (h .postings) (h .stopped) ps ss hashes
   may-plan h c = plannable w m w2 (D .is-listed) (D .is-sound) hashes (D .formed) h c
+
+  -- the postings of the others, beside those that are noted as the old take's
+  pub others-many : (h : Counts) → CountsOf rs h → {list : List ℕ} {own : ℕ} → Noted w (getD rs 2 0) 1 id ps (getD rs 2 0) list own → h .postings - own ≡ length (staying w (h .postings) 1 (id ∷ []) ps)
+  others-many h c n = rw (c .postings) (omega (arith, n .many))
 
   pub may-erase : Erasable w rs ps id
   may-erase = erasable w rs ps ss (D .wide) (D .is-listed) (D .is-sound) id (D .live)

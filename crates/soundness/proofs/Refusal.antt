@@ -1,6 +1,6 @@
 -- What refusals 1 and 2 mean for a call on the store. Assumes nothing.
-use mathlib.Core.Path.{_≡_}
-use mathlib.Core.Bool.{Bool, true, false}
+use mathlib.Core.Path.{_≡_, _∙_}
+use mathlib.Core.Bool.{Bool, true, false, cond}
 use mathlib.Core.List.{List, _∷_}
 use mathlib.Core.Option.{some}
 use Prim.Native.Nat.{ℕ}
@@ -12,6 +12,13 @@ use Rattle.model.specs.Soundness.{soundWords}
 use Rattle.model.specs.Run.{storeOf}
 use Rattle.model.proofs.Stores.{store-holds, store-unsound, store-unlisted}
 use Rattle.soundness.specs.Scan.{refusalOf}
+
+-- 2 where a test fails, else 0
+pub number-none : {n : ℕ} (b : Bool) → n ≡ cond b 0 2 → n ≡ 0 → b ≡ true
+number-none b e z = test b (λ t. t) (λ f. let k : _ ≡ 2 = e ∙ rw f in absurd (omega arith))
+
+pub number-some : {n : ℕ} (b : Bool) → n ≡ cond b 0 2 → (n ≡ 0 → ⊥) → b ≡ false
+number-some b e z = test b (λ t. absurd (z (e ∙ rw t))) (λ f. f)
 
 module _ (w : ℕ) (m : Words) where
   pub refusal-unlisted : slicesListed w m ≡ false → refusalOf w m ≡ 1
@@ -25,6 +32,10 @@ module _ (w : ℕ) (m : Words) where
   pub refusal-none : slicesListed w m ≡ true → soundWords w m ≡ true → refusalOf w m ≡ 0
   unfolding refusalOf
   refusal-none l s = rw (l, s)
+
+  pub refusal-number : slicesListed w m ≡ true → (b : Bool) → b ≡ soundWords w m → cond b 0 2 ≡ refusalOf w m
+  unfolding refusalOf
+  refusal-number l b e = rw (l, e)
 
   -- where it is not refused, the slices' lengths are listed and the words sound
   pub accepted : refusalOf w m ≡ 0 → (slicesListed w m ≡ true) × (soundWords w m ≡ true)

@@ -97,6 +97,11 @@ module _ (w : ℕ) (rs ps ss : List ℕ) (w3 : 3 ≤ w) (l : slicesListed w (wor
   unfolding sizesListed
   most-rows = leb-true (z .R) 4096 (and-right (leb 1 (z .R)) (leb (z .R) 4096) (and-left (between 1 4096 (z .R)) _ (sizes-listed w (words rs ps ss) (omega arith) l)))
 
+  most-postings : z .P ≤ 1048576
+  unfolding sizesListed
+  most-postings = leb-true (z .P) 1048576 (and-right (leb 1 (z .P)) (leb (z .P) 1048576)
+      (and-left (between 1 1048576 (z .P)) _ (and-right (between 1 4096 (z .R)) _ (sizes-listed w (words rs ps ss) (omega arith) l))))
+
   pub header-there : headWidth ≤ length rs
   header-there = omega (arith, references-long w (words rs ps ss) (omega arith) l)
 
@@ -113,6 +118,7 @@ module _ (w : ℕ) (rs ps ss : List ℕ) (w3 : 3 ≤ w) (l : slicesListed w (wor
         rows = omega (arith, hn, references-long w (words rs ps ss) (omega arith) l);
         vacant = leb-true v n (and-left (leb v n) _ e1);
         postings = omega (arith, mul-le-mul-left w hp, postings-long w (words rs ps ss) (omega arith) l);
+        few = omega (arith, hp, most-postings);
         stopped = leb-true k (z .K) (and-right (leb p (z .P)) (leb k (z .K)) e2);
       }
 

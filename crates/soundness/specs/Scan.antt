@@ -1,4 +1,5 @@
 -- The papers' conditions as the scan looks at them, each pass in one test. Definitions only. Assumes nothing.
+use mathlib.Core.Path.{_≡_}
 use mathlib.Core.Bool.{Bool, cond, not, _&&_, _||_}
 use mathlib.Core.List.{List}
 use Prim.Native.Nat.{ℕ, zero, suc, _+_, _*_, _-_, _≤_}
@@ -7,6 +8,7 @@ use lib.Dec.{eqb, leb}
 use denote.Ref.{RefT, now}
 use Rattle.lists.specs.Every.{every, count}
 use Rattle.lists.specs.Entries.{keyAt, keysAscend, zeroFrom}
+use Rattle.postings.specs.Retain.{Noted}
 use Rattle.model.specs.Rows.{hasRmax, noRate, isCanonical, isSet}
 use Rattle.model.specs.Calls.{Sizes}
 use Rattle.model.specs.Words.{Words, slicesListed, headWidth, rowWidth, atVacant}
@@ -65,6 +67,11 @@ stoppedSound w ss k ps p = stopsAscend ss k && (every p (keyUnstopped w ss k ps)
 unfoldable pub soundAt : ℕ → Sizes → List ℕ → List ℕ → List ℕ → ℕ → ℕ → ℕ → ℕ → Bool
 soundAt w z rs ps ss n v p k = countsFit z n v p k && (rowsSound w rs n v && (postingsSound w rs n ps p && stoppedSound w ss k ps p))
 
+-- what a pass over p postings finds that also lists those of recording id: whether a condition fails, and else how many there are
+pub record Met (w : ℕ) (rs : List ℕ) (n : ℕ) (ps : List ℕ) (p id : ℕ) (list : List ℕ) (number own : ℕ) : Type 0 where
+  pub found : number ≡ cond (keysAscend ps w p && every p (entryFine w rs n ps)) 0 2
+  pub noted : number ≡ 0 → Noted w p 1 id ps p list own
+
 -- the slices and the numbers in use, where they fit
 pub record Fits (w : ℕ) (rs ps ss : List ℕ) (n v p k : ℕ) : Type 0 where
   pub wide : 3 ≤ w
@@ -72,6 +79,7 @@ pub record Fits (w : ℕ) (rs ps ss : List ℕ) (n v p k : ℕ) : Type 0 where
   pub rows : headWidth + rowWidth * n ≤ length rs
   pub vacant : v ≤ n
   pub postings : w * p ≤ length ps
+  pub few : p ≤ 1048576
   pub stopped : k ≤ length ss
 
 -- why a call on a store is refused before anything else is looked at: 1 unlisted, 2 unsound, 0 neither.

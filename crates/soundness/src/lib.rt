@@ -1,15 +1,16 @@
 // Whether a store's slices have lengths that are listed, and whether their words are sound: one scan.
 ghost use mathlib.Core.Path.{_≡_};
-ghost use mathlib.Core.Bool.{true, _&&_};
-ghost use Prim.Native.Nat.{_+_, _*_, _-_, _/_, _<_, _≤_};
-ghost use lib.ListN.{length};
+ghost use mathlib.Core.Bool.{true, cond, _&&_};
+ghost use Prim.Native.Nat.{_+_, _*_, _-_, _/_, _^_, _<_, _≤_};
+ghost use lib.ListN.{length, getD};
 ghost use lib.Dec.{ltb, eqb};
 ghost use Rattle.lists.specs.Every.{every, count};
 ghost use Rattle.lists.specs.Entries.{keyAt, keysAscend};
 ghost use Rattle.model.specs.Rows.{isCanonical};
+ghost use Rattle.postings.specs.Retain.{Noted};
 ghost use Rattle.model.specs.Words.{between, lengthsListed, slicesListed, headWidth, rowWidth};
 ghost use Rattle.model.specs.Soundness.{countsFit, deadRow, vacantEntry, entryUnused, keyUnstopped, soundWords};
-ghost use Rattle.soundness.specs.Scan.{words, setTest, rowTest, rowFine, entryFine, rowsSound, postingsSound, stopsAscend, stoppedSound, refusalOf, Fits};
+ghost use Rattle.soundness.specs.Scan.{words, setTest, rowTest, rowFine, entryFine, rowsSound, postingsSound, stopsAscend, stoppedSound, refusalOf, Met, Fits};
 use postings::word;
 use rows::AT_LIVE;
 use rows::AT_RATE;
@@ -377,4 +378,130 @@ pub fn refusal_of(refs: &[u32], posts: &[u32], stops: &[u32], w: usize) -> u32
         return 2;
     }
     0
+}
+
+// What a scan finds that also lists the postings of one recording: why the store is refused, as `refusal_of` says it, and how many there are.
+pub struct Listing {
+    pub number: u32,
+    pub own: usize,
+}
+
+// An unsound store.
+fn unsound() -> Listing
+    ensures { λ r. ⌜ r .number ≡ 2 ⌝ }
+{
+    Listing { number: 2, own: 0 }
+}
+
+// As `entries_fine`, and the postings of recording id are listed.
+fn entries_listed(
+    refs: &[u32],
+    n: usize,
+    posts: &[u32],
+    w: usize,
+    p: usize,
+    id: u32,
+    list: &mut [u32],
+) -> Listing
+    requires { ⌜ (3 ≤ w) × (w * p ≤ length (now posts)) × (headWidth + rowWidth * n ≤ length (now refs)) × (p < 2 ^ 32) ⌝ }
+    ensures { λ r. ⌜ Met w (now (refs .entry)) n (now (posts .entry)) p id (now (list .exit)) (r .number) (r .own) ⌝ }
+{
+    let mut last = 0;
+    let mut i = 0;
+    let mut own = 0;
+    while i < p {
+        let key = maps::key_at(posts, w, i);
+        if key < last {
+            return unsound();
+        }
+        if !entry_fine(refs, n, posts, w, i) {
+            return unsound();
+        }
+        own = postings::note(list, own, posts, w, i, 1, id);
+        last = key;
+        i += 1;
+    }
+    Listing {
+        number: 0,
+        own: own,
+    }
+}
+
+// The same. With Wang's width as a constant its loop keeps all that it needs in registers (docs/BENCH.md, "Special cases").
+fn entries_met(
+    refs: &[u32],
+    n: usize,
+    posts: &[u32],
+    w: usize,
+    p: usize,
+    id: u32,
+    list: &mut [u32],
+) -> Listing
+    requires { ⌜ (3 ≤ w) × (w * p ≤ length (now posts)) × (headWidth + rowWidth * n ≤ length (now refs)) × (p < 2 ^ 32) ⌝ }
+    ensures { λ r. ⌜ Met w (now (refs .entry)) n (now (posts .entry)) p id (now (list .exit)) (r .number) (r .own) ⌝ }
+{
+    if w == 3 {
+        return entries_listed(refs, n, posts, 3, p, id, list);
+    }
+    entries_listed(refs, n, posts, w, p, id, list)
+}
+
+// As `sound_within`, and the postings of recording id are listed.
+fn listed_within(
+    refs: &[u32],
+    posts: &[u32],
+    stops: &[u32],
+    w: usize,
+    c: Counts,
+    id: u32,
+    list: &mut [u32],
+) -> Listing
+    requires { ⌜ Fits w (now refs) (now posts) (now stops) (c .rows) (c .vacant) (c .postings) (c .stopped) ⌝ }
+    ensures { λ r. ⌜ r .number ≡ cond (rowsSound w (now (refs .entry)) (c .rows) (c .vacant)
+        && (postingsSound w (now (refs .entry)) (c .rows) (now (posts .entry)) (c .postings) && stoppedSound w (now (stops .entry)) (c .stopped) (now (posts .entry)) (c .postings))) 0 2 ⌝ }
+    ensures { λ r. ⌜ (r .number ≡ 0 → Noted w (c .postings) 1 id (now (posts .entry)) (c .postings) (now (list .exit)) (r .own)) ⌝ }
+{
+    if !rows_sound(refs, w, c.rows, c.vacant) {
+        return unsound();
+    }
+    let p = c.postings;
+    let r = entries_met(refs, c.rows, posts, w, p, id, list);
+    if r.number != 0 {
+        return r;
+    }
+    if !is_zero_from(posts, w * p) {
+        return unsound();
+    }
+    if !stopped_sound(stops, c.stopped, posts, w, p) {
+        return unsound();
+    }
+    r
+}
+
+// As `refusal_of`, by one scan that also lists the postings of recording id, as far as the list has room.
+pub fn refusal_listing(
+    refs: &[u32],
+    posts: &[u32],
+    stops: &[u32],
+    w: usize,
+    id: u32,
+    list: &mut [u32],
+) -> Listing
+    requires { ⌜ 3 ≤ w ⌝ }
+    ensures { λ r. ⌜ r .number ≡ refusalOf w (words (now (refs .entry)) (now (posts .entry)) (now (stops .entry))) ⌝ }
+    ensures { λ r. ⌜ (r .number ≡ 0 → Noted w (getD (now (refs .entry)) 2 0) 1 id (now (posts .entry)) (getD (now (refs .entry)) 2 0) (now (list .exit)) (r .own)) ⌝ }
+{
+    if !is_listed(refs, posts, stops, w) {
+        return Listing { number: 1, own: 0 };
+    }
+    let c = rows::header(refs);
+    if !counts_fit(
+        (refs.len() - HEAD_WIDTH) / ROW_WIDTH,
+        posts.len() / w,
+        stops.len(),
+        c,
+    ) {
+        return unsound();
+    }
+    listed_within(refs, posts, stops, w, c, id, list)
 }

@@ -5,7 +5,7 @@ use native.Mathlib.Omega.{arith}
 use Rattle.model.specs.Words.{Words}
 use Rattle.soundness.specs.Scan.{words}
 use Rattle.insert.specs.Planned.{PlannedIn}
-use Rattle.insert.proofs.Admission.{Room, rooms, plannable, none-at-rows}
+use Rattle.insert.proofs.Admission.{Room, rooms, plannable, none-at-rows, none-of-them}
 use Rattle.insert.proofs.Admitted.{plan-left, plan-refuses, plan-allows, plan-stores}
 use borrow.Author.Needs.{needs}
 use Rattle.insert.proofs.admit.Statement.{statement}
@@ -55,8 +55,10 @@ cast-plan-insertion c =
 plan-insertion-requires : tie.Need-plan-insertion-requires
 plan-insertion-requires c κs =
     let d = c .before .before .before .before .before in
-    let s = s0 d in
-    (plannable (s .args .w) (m s) (w2 s) (s .pre .is-listed) (s .pre .is-sound) (s .args .hashes .now) (s .pre .formed) (d .header .result) (d .header .ensures), (omega arith, omega arith))
+    let s = s0 d in (
+      plannable (s .args .w) (m s) (w2 s) (s .pre .is-listed) (s .pre .is-sound) (s .args .hashes .now) (s .pre .formed) (d .header .result) (d .header .ensures),
+      (none-of-them (s .args .w) (m s) (w2 s) (s .pre .is-listed) (s .pre .is-sound) (d .header .result) (d .header .ensures), (omega arith, omega arith)),
+    )
 
 same-length : tie.Need-same-length
 same-length c = search needs
@@ -78,11 +80,14 @@ slice-aggregate-write-recording c = search needs
 slice-aggregate-write-recording-2 : tie.Need-slice-aggregate-write-recording-2
 slice-aggregate-write-recording-2 c = search needs
 
+slice-aggregate-write-recording-3 : tie.Need-slice-aggregate-write-recording-3
+slice-aggregate-write-recording-3 c = search needs
+
 write-recording-requires : tie.Need-write-recording-requires
 write-recording-requires c κs =
-    let e = c .before .before .before .before .before in
+    let e = c .before .before .before .before .before .before in
     let d = e .before .before .before .before in
-    plan-allows (s0 (hd d) .args .rate) (s0 (hd d) .pre) (planned d) (e .if1 .left)
+    (plan-allows (s0 (hd d) .args .rate) (s0 (hd d) .pre) (planned d) (e .if1 .left), omega arith)
 
 same-length-4 : tie.Need-same-length-4
 same-length-4 c = search needs
@@ -95,8 +100,8 @@ same-length-6 c = search needs
 
 returns-2 : tie.Need-returns-2
 returns-2 c =
-    let wr = c .before .before .before .before .before .before in
-    let e = wr .before .before .before .before .before .before in
+    let wr = c .before .before .before .before .before .before .before in
+    let e = wr .before .before .before .before .before .before .before in
     let d = e .before .before .before .before in
     let k = wr .write-recording .ensures in
     plan-stores (s0 (hd d) .args .rate) (s0 (hd d) .pre) (planned d) (e .if1 .left) _ _ _ _ (k .0) (k .1 .0) (k .1 .1 .0) (k .1 .1 .1)
@@ -116,6 +121,7 @@ admit-spec =
     returns
     slice-aggregate-write-recording
     slice-aggregate-write-recording-2
+    slice-aggregate-write-recording-3
     write-recording-requires
     same-length-4
     same-length-5

@@ -9,6 +9,7 @@ use borrow.Author.Needs.{needs}
 use Rattle.soundness.specs.Scan.{words}
 use Rattle.soundness.proofs.Refusal.{accepted}
 use Rattle.model.specs.Calls.{removed, refused}
+use Rattle.postings.proofs.Listing.{listed-none}
 use Rattle.remove.proofs.Runs.{remove-refused, remove-dead, remove-live, header-there, rows-there, erasable}
 use Rattle.remove.proofs.remove.Statement.{statement}
 use Rattle.remove.proofs.remove.Tie as tie
@@ -47,7 +48,7 @@ returns-2 c = let s = c .before .before .before .before .before .before .before 
 erase-requires : tie.Need-erase-requires
 erase-requires c κs = let s = c .before .before .before .before .before .before .before .before .before .before .before .before in
     let a = accepted (s .args .w) (words (s .args .refs .now) (s .args .posts .now) (s .args .stops .now)) (sym (c .before .before .before .before .before .before .refusal-of .ensures) ∙ c .before .before .before .before .before .if1 .left) in
-    erasable (s .args .w) (s .args .refs .now) (s .args .posts .now) (s .args .stops .now) (s .pre .0) (a .0) (a .1) (s .args .id) (sym (c .before .before .before .is-live .ensures) ∙ not-false _ (c .before .before .if2 .left))
+    (erasable (s .args .w) (s .args .refs .now) (s .args .posts .now) (s .args .stops .now) (s .pre .0) (a .0) (a .1) (s .args .id) (sym (c .before .before .before .is-live .ensures) ∙ not-false _ (c .before .before .if2 .left)), listed-none _ _ _ _ _ _)
 
 same-length-5 : tie.Need-same-length-5
 same-length-5 c = search needs

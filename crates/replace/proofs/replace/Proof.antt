@@ -17,9 +17,9 @@ use Rattle.replace.proofs.replace.Statement.{statement}
 use Rattle.replace.proofs.replace.Tie as tie
 
 -- once the store is looked at
-module _ (d : tie.After-refusal-of) where
+module _ (d : tie.After-refusal-listing) where
   abbrev s : tie.Start
-  s = d .before .before .before .before .before .before .before .before
+  s = d .before .before .before .before .before .before .before .before .before
 
   abbrev m : Words
   m = words (s .args .refs .now) (s .args .posts .now) (s .args .stops .now)
@@ -29,11 +29,11 @@ module _ (d : tie.After-refusal-of) where
 
 -- where it is not refused
 module _ (c : tie.Else1) where
-  abbrev d : tie.After-refusal-of
-  d = c .before
+  abbrev d : tie.After-refusal-listing
+  d = c .before .before .before
 
   sound : (slicesListed (s d .args .w) (m d) ≡ true) × (soundWords (s d .args .w) (m d) ≡ true)
-  sound = accepted (s d .args .w) (m d) (sym (d .refusal-of .ensures) ∙ c .if1 .left)
+  sound = accepted (s d .args .w) (m d) (sym (d .refusal-listing .ensures .0) ∙ c .if1 .left)
 
 -- where the fingerprint is well formed
 module _ (c : tie.Else2) where
@@ -43,8 +43,11 @@ module _ (c : tie.Else2) where
   formed : malformed (s (d good) .args .w) referenceMost (s (d good) .args .hashes .now) ≡ false
   formed = sym (c .before .is-malformed .ensures) ∙ c .if2 .left
 
-refusal-of-requires : tie.Need-refusal-of-requires
-refusal-of-requires c κs = search needs
+slice-aggregate-refusal-listing : tie.Need-slice-aggregate-refusal-listing
+slice-aggregate-refusal-listing c = search needs
+
+refusal-listing-requires : tie.Need-refusal-listing-requires
+refusal-listing-requires c κs = search needs
 
 same-length : tie.Need-same-length
 same-length c = search needs
@@ -57,8 +60,8 @@ same-length-3 c = search needs
 
 returns : tie.Need-returns
 returns c =
-    let r = c .before in
-    let q = r .refusal-of .ensures in
+    let r = c .before .before .before in
+    let q = r .refusal-listing .ensures .0 in
     let e = refused-early (s r .args .w) (m r) (s r .args .id) (s r .args .limit) (s r .args .rate) (s r .args .hashes .now) (w2 r) (λ z. c .if1 .taken (q ∙ z)) in
     ap (λ n. (refused n, m r)) q ∙ sym e
 
@@ -103,20 +106,25 @@ returns-3 c =
     sym (refused-10 (s r .args .w) (m r) (s r .args .id) (s r .args .limit) (s r .args .rate) (s r .args .hashes .now) (w2 r) (sound g .0) (sound g .1) (formed el)
     (live-is (s r .args .w) (s r .args .refs .now) (s r .args .posts .now) (s r .args .stops .now) (s r .pre .0) (sound g .0) (sound g .1) (s r .args .id) ∙ sym (c .before .is-live .ensures) ∙ not-true _ (c .if3 .taken)))
 
+slice-aggregate-swap : tie.Need-slice-aggregate-swap
+slice-aggregate-swap c = search needs
+
 swap-requires : tie.Need-swap-requires
 swap-requires c κs =
-    let on = c .before .before .before in
+    let on = c .before .before .before .before in
     let el = on .before .before .before in
     let g = good el in
-    let r = d g in
-    record {
-      wide = s r .pre .0;
-      narrow = s r .pre .1;
-      is-listed = sound g .0;
-      is-sound = sound g .1;
-      formed = formed el;
-      live = sym (on .before .is-live .ensures) ∙ not-false _ (on .if3 .left);
-    }
+    let r = d g in (
+      record {
+        wide = s r .pre .0;
+        narrow = s r .pre .1;
+        is-listed = sound g .0;
+        is-sound = sound g .1;
+        formed = formed el;
+        live = sym (on .before .is-live .ensures) ∙ not-false _ (on .if3 .left);
+      },
+      (r .refusal-listing .ensures .1 (g .if1 .left), omega arith),
+    )
 
 same-length-10 : tie.Need-same-length-10
 same-length-10 c = search needs
@@ -134,7 +142,8 @@ pub replace-spec : {M : Type 1} → statement M
 replace-spec =
     tie.close
     (tie.spec
-    refusal-of-requires
+    slice-aggregate-refusal-listing
+    refusal-listing-requires
     same-length
     same-length-2
     same-length-3
@@ -149,6 +158,7 @@ replace-spec =
     same-length-8
     same-length-9
     returns-3
+    slice-aggregate-swap
     swap-requires
     same-length-10
     same-length-11
