@@ -97,7 +97,7 @@ pub fn remove(refs: &mut [u32], posts: &mut [u32], stops: &[u32], w: usize, id: 
     if !is_live(refs, id) {
         return Removal::Removed(false);
     }
-    // no posting is named
+    // no place is listed
     erase(refs, posts, w, id, stops, 0);
     Removal::Removed(true)
 }
