@@ -129,22 +129,6 @@ best-more f r n m v B lt flat = go (ltb r.peak v) refl (eqb v r.peak && eqb n r.
           stops = λ h. elim (dec_lt r.end n) [ yes u ↦ B.stops u | no u ↦ low (omega (arith, B.done)) (λ g. neither q₂ g (omega (arith, B.done))) down ];
         }
 
--- lower values behind it change nothing
-pub best-lower : {f : ℕ → ℕ} {r : Run} {n : ℕ} (m : ℕ) → Best f n r → 0 < n → n ≤ m → ((x : ℕ) → n ≤ x → x < m → f x < r.peak) → Best f m r
-best-lower {f} {r} {n} m B any le low =
-    record {
-      leads = record {
-        below = λ x h. elim (dec_lt x n) [ yes u ↦ B.leads.below x u | no u ↦ omega (arith, low x (omega arith) h) ];
-        before = B.leads.before;
-        some = λ h. (omega (arith, (B.leads.some any).0), (B.leads.some any).1);
-        none = λ h. absurd (loop n (omega arith));
-      };
-      flat = B.flat;
-      some = λ h. B.some any;
-      done = omega (arith, B.done);
-      stops = λ h. elim (dec_lt r.end n) [ yes u ↦ B.stops u | no u ↦ low r.end (omega arith) h ];
-    }
-
 pub best-end : {f : ℕ → ℕ} {n : ℕ} {r : Run} → 0 < n → Best f n r → run_end f n ≡ r.end - 1
 unfolding run_end
 best-end {f} {n} {r} any B =

@@ -1,18 +1,17 @@
 -- A window that slides over bins at ascending places. Assumes nothing.
-use Prim.Native.Nat.{ℕ, zero, suc, ◌+◌, ◌-◌, ◌≤◌, ◌<◌}
-use mathlib.Core.Path.{◌≡◌, refl, ap, ◌∙◌, subst}
-use mathlib.Core.Bool.{and-false}
+use Prim.Native.Nat.{ℕ, zero, suc, ◌+◌, ◌-◌, ◌≤◌, ◌<◌, min}
+use mathlib.Core.Path.{◌≡◌, ap, ◌∙◌, subst}
 use native.Mathlib.Nat.{not-suc-le-zero}
 use native.Mathlib.Numerals.{add-one}
 use native.Mathlib.Omega.{arith}
 use native.Mathlib.Decide.{dec_lt}
-use lib.Dec.{leb, ltb}
+use lib.Dec.{ltb}
 use borrow.Author.Tests.{lt-ltb, le-ltb, le-leb, lt-leb}
 use Rattle.maps.specs.Sums.{sum_to, when}
 use Rattle.consolidate.specs.Windows.{withinℕ, window_sum, Passed, Slides, Covers}
-use Rattle.consolidate.specs.Sweeping.{Ahead}
+use Rattle.consolidate.specs.Sweeping.{Next}
 use Rattle.consolidate.specs.declared.Window.{Window}
-use Rattle.maps.proofs.Sums.{sum-next, sum-add, sum-cong, sum-le, sum-mask, sum_mono, sum_kept, keep-le}
+use Rattle.maps.proofs.Sums.{sum-next, sum-add, sum-cong, sum-mask, sum_mono, sum_kept}
 
 -- places that ascend
 abbrev pub Ascend : (ℕ → ℕ) → ℕ → Type 0
@@ -102,51 +101,6 @@ pub slides-none : (d v : ℕ → ℕ) (n tol x : ℕ) → Slides d v n tol x (re
 slides-none d v n tol x =
     record { entered = omega arith; order = omega arith; in_by = λ i u. omega arith; out_by = λ i u. omega arith; holds = omega arith }
 
--- ---- one bin enters, or one leaves
-
-module _ {d v : ℕ → ℕ} {n tol x : ℕ} {w : Window} (S : Slides d v n tol x w) where
-  pub slides-small : sum_to v n ≤ 1000000 → w.sum ≤ 1000000
-  slides-small few = omega (arith, S.holds, sum_mono v w.enter n S.entered)
-
-  pub slides-in : w.enter < n → d w.enter ≤ x + tol → Slides d v n tol x (record { enter = w.enter + 1; leave = w.leave; sum = w.sum + v w.enter })
-  slides-in h u =
-      record {
-        entered = omega arith;
-        order = omega (arith, S.order);
-        in_by = λ i k. elim (dec_lt i w.enter) [ yes p ↦ S.in_by i p | no q ↦ (let e : i ≡ w.enter = omega arith in let g : d i ≡ d w.enter = ap d e in omega arith) ];
-        out_by = S.out_by;
-        holds = omega (arith, S.holds, sum-next v w.enter);
-      }
-
-  -- a bin that has left has entered, unless a bin behind those that have entered lies too low
-  pub left-entered : Ahead d n (x + tol + 1) w.enter → w.leave < n → d w.leave + tol < x → w.leave < w.enter
-  left-entered A h u = elim (dec_lt w.leave w.enter) [ yes p ↦ p | no q ↦ omega (arith, A w.leave (omega arith) h) ]
-
-  pub leaves-fits : w.leave < w.enter → v w.leave ≤ w.sum
-  leaves-fits h = omega (arith, S.holds, sum-next v w.leave, sum_mono v (w.leave + 1) w.enter (omega arith))
-
-  pub slides-out : (c : ℕ) → c ≡ v w.leave → w.leave < w.enter → d w.leave + tol < x → Slides d v n tol x (record { enter = w.enter; leave = w.leave + 1; sum = w.sum - c })
-  slides-out c e h u =
-      record {
-        entered = S.entered;
-        order = omega arith;
-        in_by = S.in_by;
-        out_by = λ i k. elim (dec_lt i w.leave) [ yes p ↦ S.out_by i p | no q ↦ (let e : i ≡ w.leave = omega arith in let g : d i ≡ d w.leave = ap d e in omega arith) ];
-        holds = omega (arith, S.holds, sum-next v w.leave, leaves-fits h);
-      }
-
-  -- the last bin hasn't left
-  pub left-before : 0 < n → x ≤ d (n - 1) + tol → w.leave < n
-  left-before any near = elim (dec_lt w.leave n) [ yes p ↦ p | no q ↦ omega (arith, S.out_by (n - 1) (omega arith)) ]
-
-  pub covering : Ascend d n → Ahead d n (x + tol + 1) w.enter → w.leave < n → x ≤ d w.leave + tol → Covers d v n tol x w
-  covering asc A h u =
-      record {
-        slides = S;
-        later = λ i a b. omega (arith, A i a b);
-        stay = λ i a b. omega (arith, up_from d n asc w.leave i a b);
-      }
-
 -- ---- what a window holds
 
 -- where the first l bins have left and the first e have entered, the sum is of those between
@@ -171,20 +125,6 @@ split d v n tol x e l le en in_by out_by later stay =
         rw (le-leb x (d i + tol) (stay i (omega arith) h), lt-leb (d i) (x + tol) (later i (omega arith) h), le-ltb i l (omega arith), le-ltb i e (omega arith))
         (omega arith)
 
--- and where some of these may have left too, it is at most that
-held-most : (d v : ℕ → ℕ) (n tol x e l : ℕ) → l ≤ e → e ≤ n → ((i : ℕ) → i < l → d i + tol < x) → Ahead d n (x + tol + 1) e
-    → window_sum d v n tol x + sum_to v l ≤ sum_to v e
-unfolding window_sum
-held-most d v n tol x e l le en out_by A =
-    rw (← (sum-mask v l n (omega arith)), ← (sum-mask v e n en), sum-add (λ i. when (withinℕ tol x x (d i)) (v i)) (λ i. when (ltb i l) (v i)) n)
-    (sum-le (λ i. when (withinℕ tol x x (d i)) (v i) + when (ltb i l) (v i)) (λ i. when (ltb i e) (v i)) n (λ i h. at i h (dec_lt i l) (dec_lt i e)))
-  where
-    at : (i : ℕ) → i < n → Dec (i < l) → Dec (i < e) → when (withinℕ tol x x (d i)) (v i) + when (ltb i l) (v i) ≤ when (ltb i e) (v i)
-    at i h (yes p) (yes q) = rw (lt-leb x (d i + tol) (out_by i p), lt-ltb i l p, lt-ltb i e q) (omega arith)
-    at i h (yes p) (no q) = absurd (q (omega arith))
-    at i h (no p) (yes q) = rw (le-ltb i l (omega arith), lt-ltb i e q) (omega (arith, keep-le (withinℕ tol x x (d i)) (v i)))
-    at i h (no p) (no q) = rw (lt-leb (d i) (x + tol) (omega (arith, A i (omega arith) h)), le-ltb i l (omega arith), le-ltb i e (omega arith), and-false (leb x (d i + tol))) (omega arith)
-
 pub window-le : (d v : ℕ → ℕ) (n tol x : ℕ) → window_sum d v n tol x ≤ sum_to v n
 unfolding window_sum
 window-le d v n tol x = sum_kept (λ i. withinℕ tol x x (d i)) v n
@@ -201,12 +141,17 @@ covers-flat {d} {v} {n} {tol} {x} {w} c y h later stay =
 pub covers-sum : {d v : ℕ → ℕ} {n tol x : ℕ} {w : Window} → Covers d v n tol x w → w.sum ≡ window_sum d v n tol x
 covers-sum {x = x} c = let e = covers-flat c x (omega arith) c.later c.stay in omega arith
 
--- behind the first bin that leaves, and before one enters, the sum is lower
-pub covers-lower : {d v : ℕ → ℕ} {n tol x : ℕ} {w : Window} → Covers d v n tol x w → 0 < v w.leave
-    → (y : ℕ) → x ≤ y → Ahead d n (y + tol + 1) w.enter → w.leave < n → d w.leave + tol < y → window_sum d v n tol y < w.sum
-covers-lower {d} {v} {n} {tol} {x} {w} c some y h A any out =
-    let s = slides-on y h c.slides in
-    let was = left-entered s A any out in
-    let o = slides-out s (v w.leave) refl was out in
-    let t = held-most d v n tol y w.enter (w.leave + 1) o.order o.entered o.out_by A in
-    omega (arith, s.holds, sum-next v w.leave)
+-- ---- the next event
+
+pub next-is : (d v : ℕ → ℕ) (n tol at width pe pl : ℕ) (w : Window) → Ascend d n → at < width → Covers d v n tol at w
+    → (w.enter < n → pe ≡ d w.enter) → (n ≤ w.enter → pe ≡ width + tol) → (w.leave < n → pl ≡ d w.leave) → (n ≤ w.leave → pl ≡ width)
+    → Next d n tol at width w.enter w.leave (min (min (pe - tol) (pl + tol + 1)) width)
+next-is d v n tol at width pe pl w asc lt c e₁ e₂ l₁ l₂ =
+    let p : at + tol < pe = elim (dec_lt w.enter n) [ yes u ↦ omega (arith, e₁ u, c.later w.enter (omega arith) u) | no u ↦ omega (arith, e₂ (omega arith)) ] in
+    let q : at ≤ pl + tol = elim (dec_lt w.leave n) [ yes u ↦ omega (arith, l₁ u, c.stay w.leave (omega arith) u) | no u ↦ omega (arith, l₂ (omega arith)) ] in
+    record {
+      on = omega arith;
+      most = omega arith;
+      entering = λ i h u. omega (arith, e₁ (omega arith), up_from d n asc w.enter i h u);
+      leaving = λ i h u. omega (arith, l₁ (omega arith), up_from d n asc w.leave i h u);
+    }

@@ -112,8 +112,8 @@ module _ (l : List ℤ) (n tol : ℕ) (low high : ℤ) (S : Span l n tol low hig
   pub span-wide : nat_abs (high -ℤ low) < 2 ^ 33
   span-wide = omega (arith, abs-sub high low, S.bottom, S.top)
 
-  pub span-near : (i : ℕ) → i < n → place l low i ≤ nat_abs (high -ℤ low)
-  span-near i h = leb→le (place l low i) (nat_abs (high -ℤ low)) (subst T (le-shift low (place l low i) (nat_abs (high -ℤ low))) (rw (at i h, back-up low high (span-up (omega arith))) (S.down i h)))
+  near : (i : ℕ) → i < n → place l low i ≤ nat_abs (high -ℤ low)
+  near i h = leb→le (place l low i) (nat_abs (high -ℤ low)) (subst T (le-shift low (place l low i) (nat_abs (high -ℤ low))) (rw (at i h, back-up low high (span-up (omega arith))) (S.down i h)))
 
   rise : (i : ℕ) → i + 1 < n → place l low i < place l low (i + 1)
   rise i h =
@@ -126,7 +126,7 @@ module _ (l : List ℤ) (n tol : ℕ) (low high : ℤ) (S : Span l n tol low hig
         bins = S.bins;
         some = S.some;
         above = above;
-        near = λ i h. omega (arith, span-near i h, span-wide);
+        near = λ i h. omega (arith, near i h, span-wide);
         ascend = climbs (place l low) n rise;
         sum = S.sum;
       }

@@ -10,7 +10,7 @@ ghost use Rattle.consolidate.specs.Box.{mode_between, mode_near, peak_over, box_
 ghost use Rattle.consolidate.specs.Limits.{Bins, bin_ok, bins_ok, Span, ends_ok, in_span, span_ok, checked_mode, checked_peak};
 ghost use Rattle.consolidate.specs.Windows.{window_sum, Passed, Slides, Covers};
 ghost use Rattle.consolidate.specs.Tallies.{tally_of};
-ghost use Rattle.consolidate.specs.Sweeping.{Placed, Ahead, next_entry, holding, Best, better_of, Swept};
+ghost use Rattle.consolidate.specs.Sweeping.{Placed, Next, better_of, Swept};
 
 use maps::smaller;
 use signed::{is_at_most, is_less, is_natural, unsigned_abs};
@@ -212,50 +212,42 @@ pub struct Window {
     pub sum: u64,
 }
 
-// Without the bins that have left the window at x. The last bin hasn't, so the walk ends before it.
-fn left(s: &[i64], low: i64, n: usize, tol: u64, w: Window, x: u64) -> Window
-    requires { Placed s.now low n × (tol ≤ 65535) × (x ≤ 2 ^ 33) × Slides (place s.now low) (votes s.now) n tol x w
-        × Ahead (place s.now low) n (x + tol + 1) w.enter × (0 < n) × (x ≤ place s.now low (n - 1) + tol) }
-    ensures { Covers (place s.now low) (votes s.now) n tol x result × (result.leave < n) × (result.sum ≤ 1000000) }
+// The window around the place x, from one around a place that is no higher.
+fn moved(s: &[i64], low: i64, n: usize, tol: u64, w: Window, x: u64) -> Window
+    requires { Placed s.now low n × (tol ≤ 65535) × (x ≤ 2 ^ 34) × Slides (place s.now low) (votes s.now) n tol x w }
+    ensures { Covers (place s.now low) (votes s.now) n tol x result × (result.sum ≤ 1000000) }
 {
     let enter = w.enter;
-    let mut leave = w.leave;
-    let mut sum = w.sum;
-    while place_at(s, low, n, leave) + tol < x {
-        sum -= votes_at(s, n, leave);
-        leave += 1;
+    let leave = w.leave;
+    let entered = advance(s, low, n, enter, x + tol + 1);
+    let left = advance(s, low, n, leave, saturating_sub(x, tol));
+    let sum = w.sum + entered.sum - left.sum;
+    Window {
+        enter: entered.at,
+        leave: left.at,
+        sum,
     }
-    Window { enter, leave, sum }
 }
 
-// A centre at which a bin enters the window, and the window with it.
-#[derive(Drop)]
-pub struct Entry {
-    pub at: u64,
-    pub window: Window,
-}
-
-// Where the next bin enters; where none is left, `stop` and the same window.
-fn next_entry(s: &[i64], low: i64, n: usize, tol: u64, stop: u64, w: Window) -> Entry
-    requires { Placed s.now low n × Ahead (place s.now low) n tol w.enter × (w.sum ≤ 1000000) }
-    ensures { result ≡ next_entry (place s.now low) (votes s.now) n tol stop w }
+// The place of bin i, or `none` past the last.
+fn place_or(s: &[i64], low: i64, n: usize, i: usize, none: u64) -> u64
+    requires { Placed s.now low n × (none ≤ 2 ^ 34) }
+    ensures { ((i < n → result ≡ place s.now low i) × (n ≤ i → result ≡ none)) × (result ≤ 2 ^ 34) }
 {
-    let i = w.enter;
     if i < n {
-        let window = Window {
-            enter: i + 1,
-            leave: w.leave,
-            sum: w.sum + votes_at(s, n, i),
-        };
-        return Entry {
-            at: place_at(s, low, n, i) - tol,
-            window,
-        };
+        return place_at(s, low, n, i);
     }
-    Entry {
-        at: stop,
-        window: w,
-    }
+    none
+}
+
+// The next centre at which a bin enters the window or leaves it.
+fn next_event(s: &[i64], low: i64, n: usize, tol: u64, at: u64, width: u64, w: Window) -> u64
+    requires { Placed s.now low n × (tol ≤ 65535) × (at < width) × (width ≤ 2 ^ 33) × Covers (place s.now low) (votes s.now) n tol at w }
+    ensures { Next (place s.now low) n tol at width w.enter w.leave result }
+{
+    let enters = saturating_sub(place_or(s, low, n, w.enter, width + tol), tol);
+    let leaves = place_or(s, low, n, w.leave, width) + tol + 1;
+    smaller(smaller(enters, leaves), width)
 }
 
 // The first run of the greatest sum: from `start` to before `end`.
@@ -296,80 +288,55 @@ pub struct State {
     pub at: u64,
     pub window: Window,
     pub run: Run,
+    pub total: u64,
 }
 
-// One round: from the centre `at` to the next at which a bin enters the window. Between the two sums only fall; the
-// first holds until a bin leaves. The last two facts that a round requires are what document 02, request Three, asks to
-// show: "no round starts at a centre above the last bin plus the tolerance, and none at all without a bin". Code that
-// starts one there can't be proved.
-fn round(s: &[i64], low: i64, n: usize, tol: u64, stop: u64, st: State) -> State
-    requires { Placed s.now low n × (tol ≤ 65535) × (stop ≤ 2 ^ 33) × (st.at < stop) × (place s.now low (n - 1) < stop)
-        × Swept (place s.now low) (votes s.now) n tol stop st
-        × (st.at ≤ place s.now low (n - 1) + tol) × (0 < n) }
-    ensures { Swept (place s.now low) (votes s.now) n tol stop result × (st.at < result.at) }
+// One event: from the centre `at` to the next whose sum may differ.
+fn step(s: &[i64], low: i64, n: usize, tol: u64, width: u64, st: State) -> State
+    requires { Placed s.now low n × (tol ≤ 65535) × (width ≤ 2 ^ 33) × (st.at < width)
+        × Swept (place s.now low) (votes s.now) n tol width st }
+    ensures { Swept (place s.now low) (votes s.now) n tol width result × (st.at < result.at) }
 {
     let at = st.at;
     let old = st.window;
     let run = st.run;
-    let w = left(s, low, n, tol, old, at);
-    let next = next_entry(s, low, n, tol, stop, w);
-    let leaves = place_at(s, low, n, w.leave) + tol + 1;
-    let best = better(run, at, smaller(leaves, next.at), w.sum);
-    let window = next.window;
+    let window = moved(s, low, n, tol, old, at);
+    let next = next_event(s, low, n, tol, at, width, window);
+    let total = st.total + window.sum * (next - at);
+    let best = better(run, at, next, window.sum);
     State {
-        at: next.at,
+        at: next,
         window,
         run: best,
+        total,
     }
 }
 
-// The best run over `width` centres. The loop ends where the last bin has left the window, or with the span: all later
-// centres have the sum 0.
-fn sweep(s: &[i64], low: i64, n: usize, tol: u64, width: u64) -> Run
-    requires { Placed s.now low n × (tol ≤ 65535) × (width ≤ 2 ^ 33) × (0 < n) × (place s.now low (n - 1) < width) }
-    ensures { Best (window_sum (place s.now low) (votes s.now) n tol) width result }
+// All centres below width.
+fn sweep(s: &[i64], low: i64, n: usize, tol: u64, width: u64) -> State
+    requires { Placed s.now low n × (tol ≤ 65535) × (width ≤ 2 ^ 33) }
+    ensures { Swept (place s.now low) (votes s.now) n tol width result × (result.at ≡ width) }
 {
-    let last = place_at(s, low, n, n - 1);
-    let stop = smaller(last + tol + 1, width);
-    let first = advance(s, low, n, 0, tol + 1);
     let window = Window {
-        enter: first.at,
+        enter: 0,
         leave: 0,
-        sum: first.sum,
+        sum: 0,
     };
     let run = Run {
         peak: 0,
         start: 0,
         end: 0,
     };
-    let mut st = State { at: 0, window, run };
-    while st.at < stop {
-        st = round(s, low, n, tol, stop, st);
+    let mut st = State {
+        at: 0,
+        window,
+        run,
+        total: 0,
+    };
+    while st.at < width {
+        st = step(s, low, n, tol, width, st);
     }
-    st.run
-}
-
-// The count of bin i, as often as there are centres around which the window holds the bin.
-fn votes_over(s: &[i64], low: i64, n: usize, tol: u64, width: u64, i: usize) -> u64
-    requires { Placed s.now low n × (tol ≤ 65535) × (width ≤ 2 ^ 33) × (i < n) × (place s.now low i < width) }
-    ensures { result ≡ votes s.now i * holding tol width (place s.now low i) }
-{
-    let p = place_at(s, low, n, i);
-    votes_at(s, n, i) * (smaller(p + tol + 1, width) - saturating_sub(p, tol))
-}
-
-// The sum over `width` centres, bin by bin.
-fn total_over(s: &[i64], low: i64, n: usize, tol: u64, width: u64) -> u64
-    requires { Placed s.now low n × (tol ≤ 65535) × (width ≤ 2 ^ 33) × (0 < n) × (place s.now low (n - 1) < width) }
-    ensures { result ≡ sum_to (window_sum (place s.now low) (votes s.now) n tol) width }
-{
-    let mut total: u64 = 0;
-    let mut i = 0;
-    while i < n {
-        total += votes_over(s, low, n, tol, width, i);
-        i += 1;
-    }
-    total
+    st
 }
 
 // The centre x places above the low end.
@@ -383,27 +350,27 @@ fn centre_at(low: i64, x: u64) -> i64
 
 // The answer over the `width` centres from low on.
 fn peak_over(s: &[i64], n: usize, tol: u64, low: i64, width: u64) -> Peak
-    requires { Placed s.now low n × (tol ≤ 65535) × (0 < n) × (place s.now low (n - 1) < width) × (width ≤ 2 ^ 33) × (nat_abs low ≤ 2 ^ 33) }
+    requires { Placed s.now low n × (tol ≤ 65535) × (0 < width) × (width ≤ 2 ^ 33) × (nat_abs low ≤ 2 ^ 33) }
     ensures { result ≡ peak_over (window_sum (place s.now low) (votes s.now) n tol) (mode_near s.now n tol) low width }
 {
-    let run = sweep(s, low, n, tol, width);
+    let st = sweep(s, low, n, tol, width);
+    let run = st.run;
     let start = run.start;
     let end = run.end;
     let centre = centre_at(low, start + (end - 1 - start) / 2);
     let from = advance(s, low, n, 0, saturating_sub(start, tol));
     let to = advance(s, low, n, from.at, end + tol);
     let mode = mode_or(mode_offset(s, n, from.at, to.at), centre);
-    let total = total_over(s, low, n, tol, width);
     Peak {
         votes: run.peak,
         centre,
         mode,
-        total,
+        total: st.total,
     }
 }
 
-// The peak of the window sums of n bins over the centres from low to high. Only the low end is
-// visited, and the centres at which a bin enters the window: no greatest run starts elsewhere.
+// The peak of the window sums of n bins over the centres from low to high. Only those centres are
+// visited at which a bin enters or leaves the window.
 pub fn sparse_wang_box_peak(s: &[i64], n: usize, tol: u64, low: i64, high: i64) -> Peak
     requires { Span s.now n tol low high }
     ensures { result ≡ box_peak s.now n tol low high }

@@ -1,43 +1,48 @@
 use borrow.Author.Rules.{rules}
 use Prim.Native.Nat.{◌<◌, ◌≤◌}
+use mathlib.Core.Path.{◌≡◌}
 use native.Mathlib.Omega.{arith}
 use mir.Syntax.{w64}
 use mir.ValLaws.{to_z-of_z}
 use Rattle.maps.specs.Bins.{votes, place}
+use Rattle.maps.specs.Sums.{sum_to}
 use Rattle.consolidate.specs.Windows.{window_sum}
-use Rattle.consolidate.specs.Sweeping.{Best}
+use Rattle.consolidate.specs.Sweeping.{Best, Swept}
 use Rattle.consolidate.proofs.Peaks.{answer}
 use Rattle.consolidate.proofs.peak_over.Statement.{statement}
 use Rattle.consolidate.proofs.peak_over.Tie as tie
 
--- the best run over the whole span
+-- the best run and the total, over the whole span
 best : (c : tie.After-sweep) → let a = c.before.args in
-    Best (window_sum (place a.s.now a.low) (votes a.s.now) a.n a.tol) a.width c.sweep.result
-best c = rw (to_z-of_z w64 c.before.args.low c.before.ranges.low) at c.sweep.ensures
-
-some : (o : tie.Start) → 0 < o.args.width
-some o = omega (arith, o.requires.3)
+    Best (window_sum (place a.s.now a.low) (votes a.s.now) a.n a.tol) a.width c.sweep.result.run
+    × (c.sweep.result.total ≡ sum_to (window_sum (place a.s.now a.low) (votes a.s.now) a.n a.tol) a.width)
+best c =
+    let o = c.before in
+    let a = o.args in
+    let S : Swept (place a.s.now a.low) (votes a.s.now) a.n a.tol a.width c.sweep.result = rw (to_z-of_z w64 a.low o.ranges.low) at c.sweep.ensures.0 in
+    let at = c.sweep.ensures.1 in
+    (rw at at S.best, rw at at S.sums)
 
 -- the run is not empty and lies in the span
-run : (c : tie.After-sweep) → (c.sweep.result.start < c.sweep.result.end) × (c.sweep.result.end ≤ c.before.args.width)
-run c = let B = best c in (B.some (some c.before), B.done)
+run : (c : tie.After-sweep) → (c.sweep.result.run.start < c.sweep.result.run.end) × (c.sweep.result.run.end ≤ c.before.args.width)
+run c = let B = (best c).0 in (B.some c.before.requires.2, B.done)
 
 sweep-requires : tie.Need-sweep-requires
 sweep-requires c κs = search rules
 
 sub-centre-at : tie.Need-overflow-sub-centre-at
-sub-centre-at c = omega (arith, run c)
+sub-centre-at c = omega (arith, run c.before)
 
 sub-centre-at-2 : tie.Need-overflow-sub-centre-at-2
-sub-centre-at-2 c = omega (arith, run c)
+sub-centre-at-2 c = omega (arith, run c.before)
 
 add-centre-at : tie.Need-overflow-add-centre-at
 add-centre-at c = search rules
 
 centre-at-requires : tie.Need-centre-at-requires
 centre-at-requires c κs =
-    let o = c.before in
-    rw (to_z-of_z w64 o.args.low o.ranges.low) (omega (arith, o.requires.5), omega (arith, run c, o.requires.4))
+    let o = c.before.before in
+    rw (to_z-of_z w64 o.args.low o.ranges.low) (omega (arith, o.requires.4), omega (arith, run c.before, o.requires.3))
 
 saturating-sub-requires : tie.Need-saturating-sub-requires
 saturating-sub-requires c κs = search rules
@@ -57,21 +62,18 @@ mode-offset-requires c κs = search rules
 mode-or-requires : tie.Need-mode-or-requires
 mode-or-requires c κs = search rules
 
-total-over-requires : tie.Need-total-over-requires
-total-over-requires c κs = search rules
-
 returns : tie.Need-returns
 returns c =
-    let m = c.before in
-    let sw = m.before.before.before.before.before.before in
+    let sw = c.before.before.before.before.before.before.before in
     let o = sw.before in
     let back = to_z-of_z w64 o.args.low o.ranges.low in
-    let mid = m.before.before.before.before.before.centre-at in
-    let from = m.before.before.before.advance in
-    let to = m.before.before.advance2 in
-    rw (to_z-of_z w64 m.mode-or.result (record { sfits = m.mode-or.type-inv }), m.mode-or.ensures, to_z-of_z w64 mid.result (record { sfits = mid.type-inv }), mid.ensures, m.before.mode-offset.ensures, back)
-    (answer o.args.s.now o.args.low o.args.n o.args.tol o.args.width sw.sweep.result c.total-over.result from.result.at from.result.sum to.result.at to.result.sum
-    o.requires.0 (some o) (best sw) (rw back at c.total-over.ensures) (rw (back, m.before.before.before.before.saturating-sub.ensures) at from.ensures) (rw back at to.ensures))
+    let mid = c.before.before.before.before.before.centre-at in
+    let from = c.before.before.before.advance in
+    let to = c.before.before.advance2 in
+    let b = best sw in
+    rw (to_z-of_z w64 c.mode-or.result (record { sfits = c.mode-or.type-inv }), c.mode-or.ensures, to_z-of_z w64 mid.result (record { sfits = mid.type-inv }), mid.ensures, c.before.mode-offset.ensures, back)
+    (answer o.args.s.now o.args.low o.args.n o.args.tol o.args.width sw.sweep.result from.result.at from.result.sum to.result.at to.result.sum
+    o.requires.0 o.requires.2 b.0 b.1 (rw (back, c.before.before.before.before.saturating-sub.ensures) at from.ensures) (rw back at to.ensures))
 
 pub peak-over-spec : {M : Type 1} → statement M
 peak-over-spec =
@@ -88,5 +90,4 @@ peak-over-spec =
     advance-requires-2
     mode-offset-requires
     mode-or-requires
-    total-over-requires
     returns)

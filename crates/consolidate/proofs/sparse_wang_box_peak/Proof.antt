@@ -1,4 +1,3 @@
-use Prim.Native.Nat.{◌-◌, ◌<◌}
 use mathlib.Core.Path.{◌≡◌, refl, ◌∙◌}
 use native.Mathlib.Omega.{arith}
 use borrow.Author.Tests.{eq-eqb, ne_eqb}
@@ -8,7 +7,7 @@ use mir.Val.{SFits, to_z, of_z}
 use mir.ValLaws.{to_z-of_z}
 use Rattle.consolidate.specs.Box.{box_peak}
 use Rattle.signed.proofs.Sizes.{fits-abs}
-use Rattle.consolidate.proofs.Spans.{span-up, span-wide, span-near, span-placed, window-is}
+use Rattle.consolidate.proofs.Spans.{span-up, span-wide, span-placed, window-is}
 use Rattle.consolidate.proofs.sparse_wang_box_peak.Statement.{statement}
 use Rattle.consolidate.proofs.sparse_wang_box_peak.Tie as tie
 
@@ -43,9 +42,8 @@ add-width c = let o = c.before in rw (high_is o, low-is o, span-is o) (omega (ar
 peak-over-requires : tie.Need-peak-over-requires
 peak-over-requires c κs =
     let o = c.before in
-    let some : 0 < o.args.n = omega (arith, c.if1.false) in
     rw (high_is o, low-is o, span-is o)
-    (span-placed _ _ _ _ _ o.requires, o.requires.reach, some, omega (arith, span-near _ _ _ _ _ o.requires (o.args.n - 1) (omega arith)), omega (arith, span-wide _ _ _ _ _ o.requires), omega (arith, o.requires.bottom))
+    (span-placed _ _ _ _ _ o.requires, o.requires.reach, omega arith, omega (arith, span-wide _ _ _ _ _ o.requires), omega (arith, o.requires.bottom))
 
 returns-2 : tie.Need-returns-2
 unfolding box_peak
