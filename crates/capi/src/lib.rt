@@ -1,5 +1,6 @@
 // The C interface of the library. Floats pass as their bit patterns, a NaN's being 7FC00000 or
 // 7FF8000000000000 (hexadecimal) where it is a result; a slice passes as a pointer and a length.
+#![tactic(auto)]
 pub mod index;
 mod leaves;
 

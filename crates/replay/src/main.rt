@@ -13,6 +13,7 @@
 //     Q        words of scratch, what they are filled with, rate, scale_min, scale_max, scale_bins, tolerance, min_votes, min_score,
 //              min_prominence, set, hashes: query
 //     A        the last answer's words as the C interface has them, each in two halves; then zeros
+#![tactic(auto)]
 mod calls;
 mod text;
 

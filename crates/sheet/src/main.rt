@@ -1,6 +1,7 @@
 // The program sheet: a card on standard input, its sheet on standard output. Crate `sheet_card` says what a card means (specs/Sheet.antt), takes every
 // decision, and shows that turn after turn gives the sheet (proofs/Printed.antt). Here bytes are read, turns are taken, and each line is written as soon
 // as it is made. After a read or a write that fails nothing more is printed, so the last line is missing, and standard error has a line that says why.
+#![tactic(auto)]
 ghost use Rattle.std.specs.Prelude.{◌≡◌, false, ◌+◌, ◌≤◌, ◌<◌, length, take};
 ghost use Rattle.soundness.specs.Scan.{lent};
 ghost use Rattle.sheet_text.specs.Put.{line_most};

@@ -1,6 +1,7 @@
 // A whole card. specs/Sheet.antt says what it means, specs/Turns.antt how it is gone through turn by turn; proofs/Printed.antt shows that the two are
 // the same. Here is all that the program decides: how much is read, the line of each turn, and whether the card goes on; and the whole sheet of a card
 // that is held in memory.
+#![tactic(auto)]
 ghost use Rattle.std.specs.Prelude.{◌≡◌, false, ◌+◌, ◌*◌, ◌≤◌, ◌<◌, length};
 ghost use Rattle.soundness.specs.Scan.{lent};
 ghost use Rattle.sheet_text.specs.Put.{line_most, Put};

@@ -1,4 +1,5 @@
 // Words of a slice: read, widened, copied, moved, zeroed.
+#![tactic(auto)]
 ghost use Rattle.std.specs.Prelude.{◌≡◌, ◌++◌, ◌+◌, ◌-◌, ◌≤◌, ◌<◌, ◌^◌, length, get_or, take, replicate};
 ghost use Rattle.lists.specs.Entries.{zero_from};
 ghost use Rattle.slices.specs.Parts.{pasted, cleared};
