@@ -110,6 +110,10 @@ by_parts f r q a b c C A B =
 
 pub difference : (f : Format) (x y : Float) (r q : ℕ) → HasValue x false r 1 → HasValue y false q 1 → sub f x y ≡ apart f r q
 unfolding sub add neg sum
+difference f nan y r q v w = elim v [ ]
+difference f (inf _) y r q v w = elim v [ ]
+difference f (fin false m e) nan r q v w = elim w [ ]
+difference f (fin false m e) (inf _) r q v w = elim w [ ]
 difference f (fin true m e) y r q v w = absurd (true≢false v.0)
 difference f (fin false m e) (fin true n d) r q v w = absurd (true≢false w.0)
 difference f (fin false m e) (fin false n d) r q v w =
@@ -143,6 +147,8 @@ half-exact f a h =
 
 half-more : (f : Format) (y : Float) (n : ℕ) → HasValue y false n 1 → 2 * n + 1 < 2 ^ prec f → HasValue (add f y (fin false 1 (negsuc 0))) false (2 * n + 1) 2
 unfolding add sum
+half-more f nan n v h = elim v [ ]
+half-more f (inf _) n v h = elim v [ ]
 half-more f (fin true m e) n v h = absurd (true≢false v.0)
 half-more f (fin false m e) n v h =
     subst (λ (z : Float). HasValue z false (2 * n + 1) 2)
@@ -160,6 +166,8 @@ NotNegative (fin false m e) = Unit {0}
 -- plus a power of two
 plus-power : (f : Format) (x : Float) (k : ℕ) → NotNegative x → add f x (fin false 1 (pos k)) ≡ round f false (num x + 2 ^ k * den x) (den x)
 unfolding add sum
+plus-power f nan k p = elim p [ ]
+plus-power f (inf _) k p = elim p [ ]
 plus-power f (fin false m e) k p = ap₂ (λ (a c : ℕ). round f false a c) (tidy (m * up e) (2 ^ k) (down e)) (mul-one (down e))
   where
     tidy : (a p d : ℕ) → a * 1 + 1 * p * d ≡ a + p * d
@@ -185,6 +193,10 @@ nought-below a b z = let e : a + b ≡ b = omega arith in rw (e, z)
 
 below-is : (x y : Float) (b c : ℕ) → 0 < c → NotNegative x → HasValue y false b c → lt x y ≡ ltb (num x * c) (b * den x)
 unfolding lt
+below-is nan y b c C p v = elim p [ ]
+below-is (inf _) y b c C p v = elim p [ ]
+below-is (fin s m e) nan b c C p v = elim v [ ]
+below-is (fin s m e) (inf _) b c C p v = elim v [ ]
 below-is (fin s m e) (fin true n d) b c C p v = absurd (true≢false v.0)
 below-is (fin false m e) (fin false n d) b c C p v = across (m * up e) (down e) (n * up d) (down d) b c (down_pos d) C v.1
 below-is (fin true m e) (fin false n d) b c C p v =
@@ -193,6 +205,10 @@ below-is (fin true m e) (fin false n d) b c C p v =
 
 reaches-is : (x y : Float) (b c : ℕ) → 0 < c → NotNegative x → HasValue y false b c → le y x ≡ not (ltb (num x * c) (b * den x))
 unfolding le
+reaches-is nan y b c C p v = elim p [ ]
+reaches-is (inf _) y b c C p v = elim p [ ]
+reaches-is (fin s m e) nan b c C p v = elim v [ ]
+reaches-is (fin s m e) (inf _) b c C p v = elim v [ ]
 reaches-is (fin s m e) (fin true n d) b c C p v = absurd (true≢false v.0)
 reaches-is (fin false m e) (fin false n d) b c C p v =
     flip (n * up d * down e) (m * up e * down d)
@@ -225,6 +241,8 @@ amount (fin true m e) g h =
 
 whole_part : (x : Float) → NotNegative x → num x / den x < 2 ^ 64 → num x / den x ≡ to_unsigned 64 x
 unfolding to_unsigned
+whole_part nan p h = elim p [ ]
+whole_part (inf _) p h = elim p [ ]
 whole_part (fin false m e) p h = capped (m * up e / down e) h
   where
     capped : (q : ℕ) → q < 2 ^ 64 → q ≡ min q 18446744073709551615
@@ -242,6 +260,8 @@ two52-is = refl
 
 -- of n / 2 ^ l in units
 in_ones : (x : Float) (n l : ℕ) → HasValue x false (n * 2 ^ l) (2 ^ l) → HasValue x false n 1
+in_ones nan n l v = elim v [ ]
+in_ones (inf _) n l v = elim v [ ]
 in_ones (fin t m e) n l v = (v.0, eq_of_mul-eq-mul_right (2 ^ l) (pow_pos l) (m * up e * 1) (n * down e) (ap (λ (z : ℕ). z * 2 ^ l) (mul-one (m * up e)) ∙ v.1 ∙ mul_right_comm n (2 ^ l) (down e)))
 
 module _ (x : Float) (lo : T (le Selection.zero x)) (hi : T (lt x (fin false 1 (pos 51)))) where

@@ -3,13 +3,13 @@ use lib.Ieee.{of_bits}
 use Rattle.floats.proofs.magnitude.Statement.{statement}
 use Rattle.floats.proofs.magnitude.Tie as tie
 
-returns : tie.Need-returns
+returns : tie.Need-returns-then-x
 unfolding of_bits
-returns c = rw c.if1.true
+returns c = rw c.if-x.true
 
-returns-2 : tie.Need-returns-2
+returns-2 : tie.Need-returns-else-x
 unfolding of_bits
-returns-2 c = rw c.if1.false
+returns-2 c = rw c.if-x.false
 
-pub magnitude-spec : {M : Type 1} → statement M
-magnitude-spec = tie.close (tie.spec returns returns-2)
+pub magnitude_spec : {M : Type 1} → statement M
+magnitude_spec = tie.close (tie.spec returns returns-2)

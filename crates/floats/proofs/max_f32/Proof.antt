@@ -5,17 +5,17 @@ use Rattle.floats.proofs.Numbers.{ne-self}
 use Rattle.floats.proofs.max_f32.Statement.{statement}
 use Rattle.floats.proofs.max_f32.Tie as tie
 
-returns : tie.Need-returns
+returns : tie.Need-returns-then-a
 unfolding maximum
-returns c = rw (sym (ne-self c.before.args.a) ∙ c.if1.true)
+returns c = rw (sym (ne-self c.before.args.a) ∙ c.if-a.true)
 
-returns-2 : tie.Need-returns-2
+returns-2 : tie.Need-returns-then-a-b
 unfolding maximum
-returns-2 c = rw (sym (ne-self c.before.before.args.a) ∙ c.before.if1.false, c.if2.true)
+returns-2 c = rw (sym (ne-self c.before.before.args.a) ∙ c.before.if-a.false, c.if-a-b.true)
 
-returns-3 : tie.Need-returns-3
+returns-3 : tie.Need-returns-else-a-b
 unfolding maximum
-returns-3 c = rw (sym (ne-self c.before.before.args.a) ∙ c.before.if1.false, c.if2.false)
+returns-3 c = rw (sym (ne-self c.before.before.args.a) ∙ c.before.if-a.false, c.if-a-b.false)
 
-pub max-f32-spec : {M : Type 1} → statement M
-max-f32-spec = tie.close (tie.spec returns returns-2 returns-3)
+pub max_f32_spec : {M : Type 1} → statement M
+max_f32_spec = tie.close (tie.spec returns returns-2 returns-3)

@@ -6,26 +6,26 @@ use Rattle.floats.proofs.Whole.{half-up-small, half-up-few}
 use Rattle.floats.proofs.small_half_up.Statement.{statement}
 use Rattle.floats.proofs.small_half_up.Tie as tie
 
-nearest-whole-requires : tie.Need-nearest-whole-requires
+nearest-whole-requires : tie.Need-nearest_whole-near-requires
 nearest-whole-requires c κs = search rules
 
-one-if-requires : tie.Need-one-if-requires
+one-if-requires : tie.Need-one_if-requires
 one-if-requires c κs = search rules
 
-total : (c : tie.After-one-if) → let w = c.before.before in
+total : (c : tie.After-one_if) → let w = c.before.before in
     let x = w.before.args.x in
-    w.nearest-whole.result.n + c.one-if.result ≡ half_up (num x) (den x)
+    w.nearest_whole-near.result.n + c.one_if.result ≡ half_up (num x) (den x)
 total c =
     let w = c.before.before in
     let s = w.before in
-    half-up-small s.args.x s.requires.0 s.requires.1 w.nearest-whole.result.n c.one-if.result w.nearest-whole.result.float
-    w.nearest-whole.ensures.0 w.nearest-whole.ensures.1 c.one-if.ensures
+    half-up-small s.args.x s.requires.0 s.requires.1 w.nearest_whole-near.result.n c.one_if.result w.nearest_whole-near.result.float
+    w.nearest_whole-near.ensures.0 w.nearest_whole-near.ensures.1 c.one_if.ensures
 
-add-result : tie.Need-overflow-add-result
+add-result : tie.Need-overflow_add-result
 add-result c = let s = c.before.before.before.before in omega (arith, total c.before, half-up-few s.args.x s.requires.0 s.requires.1)
 
 returns : tie.Need-returns
 returns c = total c.before
 
-pub small-half-up-spec : {M : Type 1} → statement M
-small-half-up-spec = tie.close (tie.spec nearest-whole-requires one-if-requires add-result returns)
+pub small_half_up_spec : {M : Type 1} → statement M
+small_half_up_spec = tie.close (tie.spec nearest-whole-requires one-if-requires add-result returns)

@@ -10,8 +10,8 @@ search-requires c κs = search rules
 
 returns : tie.Need-returns
 returns c =
-    let a = c.before.before.args in
+    let a = c.args in
     sym (split-first a.posts.now a.w a.p a.key _ c.search.ensures)
 
-pub first-at-spec : {M : Type 1} → statement M
-first-at-spec = tie.close (tie.spec search-requires returns)
+pub first_at_spec : {M : Type 1} → statement M
+first_at_spec = tie.close (tie.spec search-requires returns)

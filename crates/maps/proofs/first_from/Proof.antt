@@ -8,27 +8,27 @@ use Rattle.maps.proofs.Entries.{scale-le, ascend-prefix, first-splits, first-amo
 use Rattle.maps.proofs.first_from.Statement.{statement}
 use Rattle.maps.proofs.first_from.Tie as tie
 
-abbrev invariant-loop : tie.invariant-loop
+abbrev invariant-loop : tie.invariant-loop-reach
 invariant-loop posts w p from key lo₀ reach₀ lo reach = (lo ≤ first_at posts w p key) × (first_at posts w p key ≤ p)
 
-abbrev decreases-loop : tie.decreases-loop
+abbrev decreases-loop : tie.decreases-loop-reach
 decreases-loop posts w p from key lo₀ reach₀ lo reach = p - lo
 
-loop-holds : tie.Need-loop-init invariant-loop decreases-loop
+loop-holds : tie.Need-loop-reach-init invariant-loop decreases-loop
 loop-holds c =
-    let s = c.before in
+    let s = c in
     (s.requires.3, (first-splits s.args.posts.now s.args.w s.args.p s.args.key s.requires.2).within)
 
-sub-loop : tie.Need-overflow-sub-loop invariant-loop decreases-loop
+sub-loop : tie.Need-overflow_sub-p invariant-loop decreases-loop
 sub-loop c = omega arith
 
-add_at : tie.Need-overflow-add-at invariant-loop decreases-loop
+add_at : tie.Need-overflow_add-at invariant-loop decreases-loop
 add_at c = omega arith
 
-key-at-requires : tie.Need-key-at-requires invariant-loop decreases-loop
+key-at-requires : tie.Need-key_at-requires invariant-loop decreases-loop
 key-at-requires c κs =
-    let s = c.before.before.before in
-    let l = c.before.loop in
+    let s = c in
+    let l = c.loop-reach in
     omega (arith, stride s.args.w (l.lo + l.reach) s.args.p _ (omega arith) s.requires.1)
 
 wide-requires : tie.Need-wide-requires invariant-loop decreases-loop
@@ -36,49 +36,49 @@ wide-requires c κs = search rules
 
 search-requires : tie.Need-search-requires invariant-loop decreases-loop
 search-requires c κs =
-    let s = c.before.before.before.before.before.before in
-    let at = c.before.before.before.before.loop.lo + c.before.before.before.before.loop.reach in (
+    let s = c in
+    let at = c.loop-reach.lo + c.loop-reach.reach in (
       s.requires.0,
       omega arith,
       omega (arith, stride s.args.w at s.args.p _ (omega arith) s.requires.1),
       ascend-prefix s.args.posts.now s.args.w at s.args.p (omega arith) s.requires.2,
     )
 
-returns : tie.Need-returns invariant-loop decreases-loop
+returns : tie.Need-returns-then-key-wide invariant-loop decreases-loop
 returns c =
-    let s = c.before.before.before.before.before.before.before in
-    let l = c.before.before.before.before.before.loop in
+    let s = c in
+    let l = c.loop-reach in
     first-among s.args.posts.now s.args.w s.args.p s.args.key l.lo (l.lo + l.reach) _ s.requires.2 l.invariant.0
     (first-upto s.args.posts.now s.args.w s.args.p s.args.key (l.lo + l.reach) s.requires.2 (omega arith) (omega arith)) (omega arith) c.search.ensures
 
-add-lo : tie.Need-overflow-add-lo invariant-loop decreases-loop
+add-lo : tie.Need-overflow_add-lo invariant-loop decreases-loop
 add-lo c = omega arith
 
-mul-reach : tie.Need-overflow-mul-reach invariant-loop decreases-loop
+mul-reach : tie.Need-overflow_mul-reach invariant-loop decreases-loop
 mul-reach c =
-    let s = c.before.before.before.before.before.before in
+    let s = c in
     omega (arith, scale-le s.args.w s.args.p s.requires.0)
 
-loop-less : tie.Need-loop-smaller invariant-loop decreases-loop
+loop-less : tie.Need-loop-reach-smaller invariant-loop decreases-loop
 loop-less c = omega arith
 
-loop-again : tie.Need-loop-preserved invariant-loop decreases-loop
+loop-again : tie.Need-loop-reach-preserved invariant-loop decreases-loop
 loop-again c =
-    let s = c.before.before.before.before.before.before in
-    let l = c.before.before.before.before.loop in
+    let s = c in
+    let l = c.loop-reach in
     (omega (arith, first-after s.args.posts.now s.args.w s.args.p s.args.key (l.lo + l.reach) s.requires.2 (omega arith) (omega arith)), l.invariant.1)
 
 search-requires-2 : tie.Need-search-requires-2 invariant-loop decreases-loop
 search-requires-2 c κs = search rules
 
-returns-2 : tie.Need-returns-2 invariant-loop decreases-loop
+returns-2 : tie.Need-returns invariant-loop decreases-loop
 returns-2 c =
-    let s = c.before.before.before.before in
-    let l = c.before.before.loop in
-    first-among s.args.posts.now s.args.w s.args.p s.args.key l.lo s.args.p _ s.requires.2 l.invariant.0 l.invariant.1 (omega arith) c.search2.ensures
+    let s = c in
+    let l = c.loop-reach in
+    first-among s.args.posts.now s.args.w s.args.p s.args.key l.lo s.args.p _ s.requires.2 l.invariant.0 l.invariant.1 (omega arith) c.search-2.ensures
 
-pub first-from-spec : {M : Type 1} → statement M
-first-from-spec =
+pub first_from_spec : {M : Type 1} → statement M
+first_from_spec =
     tie.close
     (tie.spec
     invariant-loop

@@ -4,23 +4,23 @@ use Rattle.maps.proofs.Words.{word-is, natural-fits, natural-is, natural-none}
 use Rattle.maps.proofs.natural.Statement.{statement}
 use Rattle.maps.proofs.natural.Tie as tie
 
-cast-result : tie.Need-overflow-cast-result
+cast-result : tie.Need-overflow_cast-result
 cast-result c =
-    let x = c.before.args.x in
-    let e = word-is x c.before.ranges.x in
-    rw e (natural-fits x c.before.ranges.x.sfits (rw e at c.if1.true))
+    let x = c.args.x in
+    let e = word-is x c.ranges.x in
+    rw e (natural-fits x c.ranges.x.sfits (rw e at c.if-x-ge0.true))
 
-returns : tie.Need-returns
+returns : tie.Need-returns-then-x-ge0
 returns c =
-    let x = c.before.args.x in
-    let e = word-is x c.before.ranges.x in
-    rw e (natural-is x c.before.ranges.x.sfits (rw e at c.if1.true))
+    let x = c.args.x in
+    let e = word-is x c.ranges.x in
+    rw e (natural-is x c.ranges.x.sfits (rw e at c.if-x-ge0.true))
 
-returns-2 : tie.Need-returns-2
+returns-2 : tie.Need-returns-else-x-ge0
 returns-2 c =
-    let x = c.before.args.x in
-    let e = word-is x c.before.ranges.x in
-    (natural-none x (rw e at c.if1.false), lit< tt)
+    let x = c.args.x in
+    let e = word-is x c.ranges.x in
+    (natural-none x (rw e at c.if-x-ge0.false), lit< tt)
 
-pub natural-spec : {M : Type 1} → statement M
-natural-spec = tie.close (tie.spec cast-result returns returns-2)
+pub natural_spec : {M : Type 1} → statement M
+natural_spec = tie.close (tie.spec cast-result returns returns-2)

@@ -8,24 +8,24 @@ use Rattle.maps.proofs.Entries.{first-splits, first-le, under-part}
 use Rattle.maps.proofs.part_at.Statement.{statement}
 use Rattle.maps.proofs.part_at.Tie as tie
 
-end-from-requires : tie.Need-end-from-requires
+end-from-requires : tie.Need-end_from-e-requires
 end-from-requires c κs = search rules
 
 -- the part lies in the postings
-module _ (c : tie.After-end-from) where
+module _ (c : tie.After-end_from-e) where
   abbrev s : tie.Start
   s = c.before.before
 
-  forward : s.args.w * s.args.a ≤ s.args.w * c.end-from.result
-  forward = mul-le-mul_left s.args.w (omega (arith, s.pre.3, c.end-from.ensures, first-le s.args.posts.now s.args.w s.args.p s.args.key s.pre.2))
+  forward : s.args.w * s.args.a ≤ s.args.w * c.end_from-e.result
+  forward = mul-le-mul_left s.args.w (omega (arith, s.requires.3, c.end_from-e.ensures, first-le s.args.posts.now s.args.w s.args.p s.args.key s.requires.2))
 
-  inside : s.args.w * c.end-from.result ≤ s.args.w * s.args.p
-  inside = mul-le-mul_left s.args.w (omega (arith, c.end-from.ensures, (first-splits s.args.posts.now s.args.w s.args.p (s.args.key + 1) s.pre.2).within))
+  inside : s.args.w * c.end_from-e.result ≤ s.args.w * s.args.p
+  inside = mul-le-mul_left s.args.w (omega (arith, c.end_from-e.ensures, (first-splits s.args.posts.now s.args.w s.args.p (s.args.key + 1) s.requires.2).within))
 
-mul-between : tie.Need-overflow-mul-between
+mul-between : tie.Need-overflow_mul-w
 mul-between c = omega (arith, forward c, inside c)
 
-mul-between-2 : tie.Need-overflow-mul-between-2
+mul-between-2 : tie.Need-overflow_mul-w-2
 mul-between-2 c = omega (arith, inside c)
 
 between-requires : tie.Need-between-requires
@@ -34,8 +34,8 @@ between-requires c κs = omega (arith, forward c, inside c)
 returns : tie.Need-returns
 returns c =
     let o = s c.before in
-    c.between.ensures ∙ sym (under-part o.args.posts.now o.args.w o.args.p o.args.key _ _ o.pre.0 o.pre.2 o.pre.3 c.before.end-from.ensures)
+    c.between.ensures ∙ sym (under-part o.args.posts.now o.args.w o.args.p o.args.key _ _ o.requires.0 o.requires.2 o.requires.3 c.end_from-e.ensures)
 
-pub part-at-spec : {M : Type 1} → statement M
-part-at-spec =
+pub part_at_spec : {M : Type 1} → statement M
+part_at_spec =
     tie.close (tie.spec end-from-requires mul-between mul-between-2 between-requires returns)

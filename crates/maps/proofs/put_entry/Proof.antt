@@ -7,50 +7,50 @@ use borrow.Author.Rules.{rules}
 use Rattle.maps.proofs.put_entry.Statement.{statement}
 use Rattle.maps.proofs.put_entry.Tie as tie
 
-mul-from : tie.Need-overflow-mul-from
+mul-from : tie.Need-overflow_mul-from
 mul-from c = search rules
 
 at-requires : tie.Need-at-requires
 at-requires c κs = search rules
 
-mul-posts : tie.Need-overflow-mul-posts
+mul-posts : tie.Need-offset_bounds-posts-to
 mul-posts c = search rules
 
-slice-write-posts : tie.Need-slice-write-posts
+slice-write-posts : tie.Need-bounds-posts-to
 slice-write-posts c = search rules
 
-add-posts : tie.Need-overflow-add-posts
+add-posts : tie.Need-overflow_add-posts
 add-posts c = search rules
 
-mul-posts-2 : tie.Need-overflow-mul-posts-2
+mul-posts-2 : tie.Need-offset_bounds-posts-to-2
 mul-posts-2 c = search rules
 
-slice-write-posts-2 : tie.Need-slice-write-posts-2
+slice-write-posts-2 : tie.Need-bounds-posts-to-2
 slice-write-posts-2 c = simp length-set (omega arith)
 
-add-copy-words : tie.Need-overflow-add-copy-words
+add-copy-words : tie.Need-overflow_add-to
 add-copy-words c = search rules
 
-add-copy-words-2 : tie.Need-overflow-add-copy-words-2
+add-copy-words-2 : tie.Need-overflow_add-from
 add-copy-words-2 c = search rules
 
-sub-copy-words : tie.Need-overflow-sub-copy-words
+sub-copy-words : tie.Need-overflow_sub-v
 sub-copy-words c = search rules
 
-copy-words-requires : tie.Need-copy-words-requires
+copy-words-requires : tie.Need-copy_words-requires
 copy-words-requires c κs = (simp length-set (omega arith), omega arith)
 
-same_length : tie.Need-same-length
-same_length c = c.before.before.copy-words.auto.0 ∙ simp length-set
+same_length : tie.Need-shape_of-posts
+same_length c = c.copy_words.auto.dst ∙ simp length-set
 
 returns : tie.Need-returns
 returns c =
-    let s = c.before.before.before.before.before.before.before in
-    c.before.before.copy-words.ensures ∙ rw c.before.before.before.before.at.ensures
+    let s = c in
+    c.copy_words.ensures ∙ rw c.at.ensures
     (entry-put s.args.posts.now s.args.to s.args.hashes.now s.args.v s.args.j s.args.id s.requires.0 s.requires.1 s.requires.2)
 
-pub put-entry-spec : {M : Type 1} → statement M
-put-entry-spec =
+pub put_entry_spec : {M : Type 1} → statement M
+put_entry_spec =
     tie.close
     (tie.spec
     mul-from

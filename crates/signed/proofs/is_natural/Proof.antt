@@ -7,5 +7,5 @@ use Rattle.signed.proofs.is_natural.Tie as tie
 returns : tie.Need-returns
 returns c = rw (to_z-of_z w64 c.args.x c.ranges.x) (le_z-non_neg c.args.x)
 
-pub is-natural-spec : {M : Type 1} → statement M
-is-natural-spec = tie.close (tie.spec returns)
+pub is_natural_spec : {M : Type 1} → statement M
+is_natural_spec = tie.close (tie.spec returns)

@@ -8,11 +8,11 @@ use Rattle.slices.proofs.clear_from.Tie as tie
 clear-requires : tie.Need-clear-requires
 clear-requires c κs = search rules
 
-same_length : tie.Need-same-length
+same_length : tie.Need-shape_of-s
 same_length c = search rules
 
 returns : tie.Need-returns
 returns c = c.before.before.clear.ensures ∙ cleared-end c.before.before.before.before.before.args.s.now c.before.before.before.before.before.args.a
 
-pub clear-from-spec : {M : Type 1} → statement M
-clear-from-spec = tie.close (tie.spec clear-requires same_length returns)
+pub clear_from_spec : {M : Type 1} → statement M
+clear_from_spec = tie.close (tie.spec clear-requires same_length returns)
