@@ -11,7 +11,7 @@ import os
 import re
 import sys
 
-IDENT = re.compile(r"[A-Za-z_ℕℤμκα-ω][A-Za-z0-9_ℕℤμκα-ω'₀-₉]*")
+IDENT = re.compile(r"(?<![0-9A-Za-z_])[A-Za-z_ℕℤμκα-ω][A-Za-z0-9_ℕℤμκα-ω'₀-₉]*")
 CAMEL = re.compile(r"^[a-zμ][a-z0-9_]*[A-Zℤ]")
 # facts, which are types, and old words of the library's in lemmas' names
 GIVEN = {"leftAfter": "LeftAfter", "getD": "get_or"}

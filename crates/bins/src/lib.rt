@@ -8,7 +8,7 @@ ghost use Rattle.bins.specs.Distinct.{near_place, marked, distinct_near};
 
 // How a candidate's votes stand in words: a word counts from -low; without its last `bits` bits it is a code of `size` bits
 // and the recording's id above it. Where `scaled`, a code is a scale bin above 40 bits of place, else a place.
-#[derive(Drop)]
+#[derive(Clone, Copy)]
 pub struct Form {
     pub low: u64,
     pub bits: u32,

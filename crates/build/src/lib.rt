@@ -17,7 +17,7 @@ use build_stops::Left;
 use slices::{at, size};
 
 // "built", or "refused with a number".
-#[derive(Drop)]
+#[derive(Clone, Copy)]
 pub enum Building {
     Refused(u32),
     Built,

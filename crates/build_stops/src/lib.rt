@@ -29,7 +29,7 @@ fn passes(run: usize, limit: usize) -> usize
     0
 }
 
-#[derive(Drop)]
+#[derive(Clone, Copy)]
 struct Runs {
     key: u64,
     run: usize,
@@ -111,7 +111,7 @@ fn key_run_end(posts: &[u32], w: usize, i: usize, n: usize) -> usize
     e
 }
 
-#[derive(Drop)]
+#[derive(Clone, Copy)]
 pub struct Left {
     pub postings: usize,
     pub stopped: usize,

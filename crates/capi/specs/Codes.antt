@@ -56,4 +56,4 @@ tried_words (Offset t) = pos 1 ∷ t.frames ∷ t.ms ∷ []
 
 -- `MatchResult::NONE`: the time scale is 1.0, all else is 0
 abbrev pub no_match_words : List ℕ
-no_match_words = 0 ∷ 0 ∷ 0 ∷ 0 ∷ 0 ∷ 0 ∷ 0x3_f80_0000 ∷ 0 ∷ []
+no_match_words = 0 ∷ 0 ∷ 0 ∷ 0 ∷ 0 ∷ 0 ∷ 0x3F80_0000 ∷ 0 ∷ []

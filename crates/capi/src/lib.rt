@@ -28,7 +28,7 @@ fn word_of(x: i64) -> u64
     ensures { result ≡ twos_complement x }
 {
     if x < 0 {
-        return 0x_f_f_f_f_f_f_f_f_f_f_f_f_f_f_f_f - ((-1 - x) as u64);
+        return 0xFFFF_FFFF_FFFF_FFFF - ((-1 - x) as u64);
     }
     x as u64
 }

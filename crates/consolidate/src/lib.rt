@@ -17,14 +17,14 @@ use maps::smaller;
 use signed::{is_at_most, is_less, is_natural, unsigned_abs};
 
 // The offset that is reported for a peak, if there is one.
-#[derive(Drop)]
+#[derive(Clone, Copy)]
 pub enum Mode {
     Offset(i64),
     Nothing,
 }
 
 // The greatest sum, the centre of its first run, the mode near that run, and the sum over all centres.
-#[derive(Drop)]
+#[derive(Clone, Copy)]
 pub struct Peak {
     pub votes: u64,
     pub centre: i64,
@@ -32,13 +32,13 @@ pub struct Peak {
     pub total: u64,
 }
 
-#[derive(Drop)]
+#[derive(Clone, Copy)]
 pub enum CheckedMode {
     Refused,
     Found(Mode),
 }
 
-#[derive(Drop)]
+#[derive(Clone, Copy)]
 pub enum CheckedPeak {
     Refused,
     Found(Peak),
@@ -83,7 +83,7 @@ fn votes_at(s: &[i64], n: usize, i: usize) -> u64
 }
 
 // The greatest count so far, how many offsets have it, and the sum of these.
-#[derive(Drop)]
+#[derive(Clone, Copy)]
 pub struct Tally {
     pub best: u64,
     pub count: u64,
@@ -182,7 +182,7 @@ fn place_at(s: &[i64], low: i64, n: usize, i: usize) -> u64
 }
 
 // Where a walk over the bins stops, and the sum of the counts passed.
-#[derive(Drop)]
+#[derive(Clone, Copy)]
 pub struct Pass {
     pub at: usize,
     pub sum: u64,
@@ -206,7 +206,7 @@ fn advance(s: &[i64], low: i64, n: usize, from: usize, below: u64) -> Pass
 }
 
 // The bins from `leave` to before `enter`, and the sum of their counts.
-#[derive(Drop)]
+#[derive(Clone, Copy)]
 pub struct Window {
     pub enter: usize,
     pub leave: usize,
@@ -252,7 +252,7 @@ fn next_event(s: &[i64], low: i64, n: usize, tol: u64, at: u64, width: u64, w: W
 }
 
 // The first run of the greatest sum: from `start` to before `end`.
-#[derive(Drop)]
+#[derive(Clone, Copy)]
 pub struct Run {
     pub peak: u64,
     pub start: u64,
@@ -284,7 +284,7 @@ fn better(r: Run, at: u64, next: u64, v: u64) -> Run
 }
 
 // The sweep before the centre `at`.
-#[derive(Drop)]
+#[derive(Clone, Copy)]
 pub struct State {
     pub at: u64,
     pub window: Window,

@@ -142,13 +142,13 @@ table =
     ∷ mode_of (pos 3 ∷ pos 2 ∷ pos 4 ∷ pos 2 ∷ []) (pos 3)
     ∷ mode_of (negsuc 2 ∷ pos 2 ∷ negsuc 3 ∷ pos 2 ∷ []) (negsuc 3)
     -- document 01: 1000 and 999 agree; 62.5 and 62.4 don't
-    ∷ rates 0x447_a_0000 0x4479_c000 true
-    ∷ rates 0x427_a_0000 0x4279_999_a false
+    ∷ rates 0x447A_0000 0x4479_C000 true
+    ∷ rates 0x427A_0000 0x4279_999A false
     -- document 01: ids 0, 1, 2; remove 0, then 2; inserts get 2, 0, 3
     ∷ ids (none ∷ none ∷ none ∷ some 0 ∷ some 2 ∷ none ∷ none ∷ none ∷ []) (0 ∷ 1 ∷ 2 ∷ 2 ∷ 0 ∷ 3 ∷ [])
     -- document 01: 1 frame at rate 2000 is 1 ms; −1 frame is −1 ms
-    ∷ in_millis (pos 1) 0x44_f_a_0000 (pos 1)
-    ∷ in_millis (negsuc 0) 0x44_f_a_0000 (negsuc 0)
+    ∷ in_millis (pos 1) 0x44FA_0000 (pos 1)
+    ∷ in_millis (negsuc 0) 0x44FA_0000 (negsuc 0)
     -- document 01: 16,777,217 becomes 16,777,216; 16,777,219 becomes 16,777,220
     ∷ becomes 16777217 16777216
     ∷ becomes 16777219 16777220
@@ -156,27 +156,27 @@ table =
     ∷ hough (pos 4 ∷ pos 10 ∷ pos 2 ∷ pos 5 ∷ pos 10 ∷ pos 3 ∷ pos 9 ∷ pos 10 ∷ pos 1 ∷ []) 0 5 0 (pos 10) 0x4020_0000
     -- worked cases: 2.5 and −2.5, the f64 below 0.5, 2 ^ 63, a NaN
     ∷ rounds_to 0x4004_0000_0000_0000 (pos 3)
-    ∷ rounds_to 0x_c004_0000_0000_0000 (negsuc 2)
-    ∷ rounds_to 0x3_f_d_f_f_f_f_f_f_f_f_f_f_f_f_f (pos 0)
-    ∷ rounds_to 0x43_e0_0000_0000_0000 (pos 9223372036854775807)
-    ∷ rounds_to 0x7_f_f8_0000_0000_0000 (pos 0)
+    ∷ rounds_to 0xC004_0000_0000_0000 (negsuc 2)
+    ∷ rounds_to 0x3FDF_FFFF_FFFF_FFFF (pos 0)
+    ∷ rounds_to 0x43E0_0000_0000_0000 (pos 9223372036854775807)
+    ∷ rounds_to 0x7FF8_0000_0000_0000 (pos 0)
     -- the ends of an i64 at rate 1000: −2^63 fits; 2^63 − 1, which is 2^63 as an f64, doesn't; 2^63 − 513 is the last that becomes a smaller one
-    ∷ tried_millis (negsuc 9223372036854775807) 0x447_a_0000 (some (negsuc 9223372036854775807))
-    ∷ tried_millis (pos 9223372036854775807) 0x447_a_0000 none
-    ∷ tried_millis (pos 9223372036854775295) 0x447_a_0000 (some (pos 9223372036854774784))
+    ∷ tried_millis (negsuc 9223372036854775807) 0x447A_0000 (some (negsuc 9223372036854775807))
+    ∷ tried_millis (pos 9223372036854775807) 0x447A_0000 none
+    ∷ tried_millis (pos 9223372036854775295) 0x447A_0000 (some (pos 9223372036854774784))
     -- half a millisecond; the smallest positive rate; rates 0, −62.5, infinite, a NaN
-    ∷ tried_millis (negsuc 0) 0x44_f_a_0000 (some (negsuc 0))
+    ∷ tried_millis (negsuc 0) 0x44FA_0000 (some (negsuc 0))
     ∷ tried_millis (pos 1) 0x0000_0001 none
     ∷ tried_millis (pos 1) 0x0000_0000 none
-    ∷ tried_millis (pos 1) 0x_c27_a_0000 none
-    ∷ tried_millis (pos 1) 0x7_f80_0000 none
-    ∷ tried_millis (pos 1) 0x7_f_c0_0000 none
+    ∷ tried_millis (pos 1) 0xC27A_0000 none
+    ∷ tried_millis (pos 1) 0x7F80_0000 none
+    ∷ tried_millis (pos 1) 0x7FC0_0000 none
     -- a lone peak of 2; a background of 16,777,217, which rounds; a width of 1
     ∷ prominence 2 2 10 0x4000_0000
-    ∷ prominence 1 16777218 3 0x33_f_f_f_f_f_e
-    ∷ prominence 3 9 1 0x3_e_d_b_6_d_b7
+    ∷ prominence 1 16777218 3 0x33FF_FFFE
+    ∷ prominence 3 9 1 0x3EDB_6DB7
     -- a third, rounded
-    ∷ score 1 3 0x3_e_a_a_a_a_a_b
+    ∷ score 1 3 0x3EAA_AAAB
     -- bin 10 of 24 in 0.80 .. 1.25
-    ∷ scale 0x3_f4_c_c_c_c_d 0x3_f_a0_0000 24 10 0x3_f80_66_b9
+    ∷ scale 0x3F4C_CCCD 0x3FA0_0000 24 10 0x3F80_66B9
     ∷ []

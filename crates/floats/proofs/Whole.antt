@@ -341,7 +341,7 @@ module _ (x : Float) (lo : T (le Selection.zero x)) (hi : T (lt x (fin false 1 (
           ap (λ (j : ℕ). j - t) K ∙ c.1 ∙ whole_part x not_negative (lt_of_lt_of_le ((div-lt_iff_lt-mul (den_pos x)).1 under) (lit≤ tt)),
         )
 
-    pub half-up-small : t ≡ cond (le (add binary64 y (of_bits binary64 0x3_f_e0_0000_0000_0000)) x) 1 0 → k + t ≡ half_up (num x) (den x)
+    pub half-up-small : t ≡ cond (le (add binary64 y (of_bits binary64 0x3FE0_0000_0000_0000)) x) 1 0 → k + t ≡ half_up (num x) (den x)
     unfolding of_bits
     half-up-small e =
         ap (λ (j : ℕ). j + t) K

@@ -67,7 +67,7 @@ pub fn round_to_i64(x: f64) -> i64
 }
 
 // The whole number that is nearest to some x, as a number and as a float.
-#[derive(Drop)]
+#[derive(Clone, Copy)]
 pub struct Nearest {
     pub n: u64,
     pub float: f64,
@@ -197,7 +197,7 @@ pub fn clamp_f64(x: f64, lo: f64, hi: f64) -> f64
 pub fn f32_from_bits(word: u32) -> f32
     ensures { result ≡ Ieee.of_bits binary32 word }
 {
-    if word % 0x8000_0000 > 0x7_f80_0000 {
+    if word % 0x8000_0000 > 0x7F80_0000 {
         return 0.0 / 0.0;
     }
     f32::from_bits(word)
@@ -207,14 +207,14 @@ pub fn f32_from_bits(word: u32) -> f32
 pub fn f64_from_bits(word: u64) -> f64
     ensures { result ≡ Ieee.of_bits binary64 word }
 {
-    if word % 0x8000_0000_0000_0000 > 0x7_f_f0_0000_0000_0000 {
+    if word % 0x8000_0000_0000_0000 > 0x7FF0_0000_0000_0000 {
         return 0.0 / 0.0;
     }
     f64::from_bits(word)
 }
 
 // The one bit pattern that is written for a NaN.
-pub const NAN_BITS: u32 = 0x7_f_c0_0000;
+pub const NAN_BITS: u32 = 0x7FC0_0000;
 
 // The bit pattern of a float.
 pub fn f32_to_bits(x: f32) -> u32
@@ -231,7 +231,7 @@ pub fn f64_to_bits(x: f64) -> u64
     ensures { result ≡ Ieee.to_bits binary64 x }
 {
     if x != x {
-        return 0x7_f_f8_0000_0000_0000;
+        return 0x7FF8_0000_0000_0000;
     }
     f64::to_bits(x)
 }

@@ -32,21 +32,21 @@ const FEW: usize = 24;
 const NEAR: u64 = 4;
 
 // The greatest sum, and the first bin that has it.
-#[derive(Drop)]
+#[derive(Clone, Copy)]
 pub struct Peak {
     pub votes: u64,
     pub at: usize,
 }
 
 // A peak, the offset that is reported for it, and its prominence.
-#[derive(Drop)]
+#[derive(Clone, Copy)]
 pub struct Answer {
     pub peak: Peak,
     pub offset: i64,
     pub prominence: f32,
 }
 
-#[derive(Drop)]
+#[derive(Clone, Copy)]
 pub enum CheckedAnswer {
     Refused,
     Found(Answer),
@@ -203,7 +203,7 @@ fn moved(s: &[i64], n: usize, tol: u64, w: Window, x: u64) -> Window
 }
 
 // One row down, in the row itself and one row up; and the sum of the three.
-#[derive(Drop)]
+#[derive(Clone, Copy)]
 pub struct Windows {
     pub under: Window,
     pub here: Window,
@@ -333,7 +333,7 @@ fn is_far(s: &[i64], n: usize, tol: u64, a: usize, i: usize) -> bool
 }
 
 // The sums of the bins out of reach, added up, and how many they are.
-#[derive(Drop)]
+#[derive(Clone, Copy)]
 pub struct Background {
     pub sum: u64,
     pub count: u64,

@@ -20,7 +20,7 @@ use rows::{Counts, Row};
 use slices::size;
 
 // "stored with an id", or "refused with a number".
-#[derive(Drop)]
+#[derive(Clone, Copy)]
 pub enum Insertion {
     Refused(u32),
     Stored(u32),
@@ -88,7 +88,7 @@ fn put_recording(refs: &mut [u32], c: Counts, id: usize, row: Row, p: usize, k: 
 }
 
 // What an insertion would do: the number it is refused by, 0 where it is not; how many hashes are not skipped, and how many keys are stopped.
-#[derive(Drop)]
+#[derive(Clone, Copy)]
 pub struct Plan {
     pub number: u32,
     pub hashes: usize,

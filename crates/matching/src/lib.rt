@@ -32,14 +32,14 @@ fn is_i64(x: f64) -> bool
 }
 
 // Signed time offset of the query relative to the reference.
-#[derive(Drop)]
+#[derive(Clone, Copy)]
 pub struct TimeOffset {
     pub frames: i64,
     pub ms: i64,
 }
 
 // The `Option` of `try_from_frames`.
-#[derive(Drop)]
+#[derive(Clone, Copy)]
 pub enum TriedOffset {
     Nothing,
     Offset(TimeOffset),
@@ -80,7 +80,7 @@ impl TimeOffset {
 }
 
 // Outcome of matching a query against one reference.
-#[derive(Drop)]
+#[derive(Clone, Copy)]
 pub struct MatchResult {
     pub is_match: bool,
     pub score: f32,
@@ -145,7 +145,7 @@ pub fn below_threshold(value: f32, threshold: f32) -> bool
     !(value >= threshold)
 }
 
-#[derive(Drop)]
+#[derive(Clone, Copy)]
 pub enum Ordering {
     Less,
     Equal,

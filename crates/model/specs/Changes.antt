@@ -27,7 +27,7 @@ same (some a) (some b) = eqb a.0 b.0 && eqb a.1 b.1
 
 -- 62.5 frames a second
 abbrev pub rate : ℕ
-rate = 0x427_a_0000
+rate = 0x427A_0000
 
 module _ (S : Scheme) where
   -- the words of three recordings' hashes, and a query for a set, at `rate`, that meets the first by both of its hashes, the second by one, the

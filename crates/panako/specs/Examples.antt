@@ -41,13 +41,13 @@ abbrev probe : ℕ → Query panako
 probe set = record {
   ask = record {
     cfg = record {
-      scale_min = of_bits binary32 0x3_f4_c_c_c_c_d;
-      scale_max = of_bits binary32 0x3_f_a0_0000;
+      scale_min = of_bits binary32 0x3F4C_CCCD;
+      scale_max = of_bits binary32 0x3FA0_0000;
       scale_bins = 24;
       offset_tolerance_frames = 1;
       min_votes = 1;
-      min_score = of_bits binary32 0x3_e80_0000;
-      min_prominence = of_bits binary32 0x3_f00_0000;
+      min_score = of_bits binary32 0x3E80_0000;
+      min_prominence = of_bits binary32 0x3F00_0000;
     };
     rate = of_bits binary32 rate;
   };

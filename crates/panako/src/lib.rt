@@ -22,7 +22,7 @@ use remove::{LiveCount, Removal};
 // The words of a posting: key, id, t_anchor, t_b, t_c.
 const WIDTH: usize = 5;
 
-#[derive(Drop)]
+#[derive(Clone, Copy)]
 pub struct PanakoIndex {}
 
 impl PanakoIndex {

@@ -120,38 +120,38 @@ scaled = hash 10 27 ∷ hash 10 19 ∷ hash 10 17 ∷ hash 10 19 ∷ hash 10 17 
 
 abbrev table : List Example
 table =
-    judged (ask 0x3_f4_c_c_c_c_d 0x3_f_a00000 24 1 2 0x3_f000000 0x40000000 0x427_a0000) two 0x427_a0000 later (M 2 0x3_f800000 0x40000000 (pos 100) (pos 1600) 0x3_f8066_b9)
+    judged (ask 0x3F4CCCCD 0x3FA00000 24 1 2 0x3F000000 0x40000000 0x427A0000) two 0x427A0000 later (M 2 0x3F800000 0x40000000 (pos 100) (pos 1600) 0x3F8066B9)
     -- settings that `normalize_config` replaces: a NaN, and no scale bins
-    ∷ judged (ask 0x7_f_c00000 0x3_f_a00000 0 1 2 0x3_f000000 0x40000000 0x427_a0000) two 0x427_a0000 later (M 2 0x3_f800000 0x40000000 (pos 100) (pos 1600) 0x3_f8066_b9)
+    ∷ judged (ask 0x7FC00000 0x3FA00000 0 1 2 0x3F000000 0x40000000 0x427A0000) two 0x427A0000 later (M 2 0x3F800000 0x40000000 (pos 100) (pos 1600) 0x3F8066B9)
     -- one vote more is asked for
-    ∷ judged (ask 0x3_f4_c_c_c_c_d 0x3_f_a00000 24 1 3 0x3_f000000 0x40000000 0x427_a0000) two 0x427_a0000 later N
+    ∷ judged (ask 0x3F4CCCCD 0x3FA00000 24 1 3 0x3F000000 0x40000000 0x427A0000) two 0x427A0000 later N
     -- the prominence is just below what is asked for
-    ∷ judged (ask 0x3_f4_c_c_c_c_d 0x3_f_a00000 24 1 2 0x3_f000000 0x40000001 0x427_a0000) two 0x427_a0000 later N
+    ∷ judged (ask 0x3F4CCCCD 0x3FA00000 24 1 2 0x3F000000 0x40000001 0x427A0000) two 0x427A0000 later N
     -- a NaN as a gate bars all
-    ∷ judged (ask 0x3_f4_c_c_c_c_d 0x3_f_a00000 24 1 2 0x7_f_c00000 0x40000000 0x427_a0000) two 0x427_a0000 later N
+    ∷ judged (ask 0x3F4CCCCD 0x3FA00000 24 1 2 0x7FC00000 0x40000000 0x427A0000) two 0x427A0000 later N
     -- rates 62.4 and 62.5 don't agree
-    ∷ judged (ask 0x3_f4_c_c_c_c_d 0x3_f_a00000 24 1 2 0x3_f000000 0x40000000 0x4279999_a) two 0x427_a0000 later N
+    ∷ judged (ask 0x3F4CCCCD 0x3FA00000 24 1 2 0x3F000000 0x40000000 0x4279999A) two 0x427A0000 later N
     -- "(4,10):2, (5,10):3, (9,10):1, tolerance 0 → peak 5 at the first bin, frames 10, prominence 2.5"; the time scale is that bin's
-    ∷ judged (ask 0x3_f000000 0x40200000 16 0 5 0x3_f000000 0x40200000 0x427_a0000) six 0x427_a0000 scaled (M 5 0x3_f555555 0x40200000 (pos 10) (pos 160) 0x3_f70_f0_f1)
+    ∷ judged (ask 0x3F000000 0x40200000 16 0 5 0x3F000000 0x40200000 0x427A0000) six 0x427A0000 scaled (M 5 0x3F555555 0x40200000 (pos 10) (pos 160) 0x3F70F0F1)
     -- six votes, but five at the peak
-    ∷ judged (ask 0x3_f000000 0x40200000 16 0 6 0x3_f000000 0x40200000 0x427_a0000) six 0x427_a0000 scaled N
+    ∷ judged (ask 0x3F000000 0x40200000 16 0 6 0x3F000000 0x40200000 0x427A0000) six 0x427A0000 scaled N
     -- offsets 10, 11, 11 and 40, 41 with tolerance 1: the mode of the first three is 11, and the background is the sum 2 of each of the others
-    ∷ judged (ask 0x3_f000000 0x40200000 16 1 3 0x3_f000000 0x3_f800000 0x427_a0000) (hash 0 16 ∷ hash 0 16 ∷ hash 0 16 ∷ hash 0 16 ∷ hash 0 16 ∷ []) 0x427_a0000
-    (hash 41 16 ∷ hash 11 16 ∷ hash 10 16 ∷ hash 40 16 ∷ hash 11 16 ∷ []) (M 3 0x3_f19999_a 0x3_f800000 (pos 11) (pos 176) 0x3_f70_f0_f1)
+    ∷ judged (ask 0x3F000000 0x40200000 16 1 3 0x3F000000 0x3F800000 0x427A0000) (hash 0 16 ∷ hash 0 16 ∷ hash 0 16 ∷ hash 0 16 ∷ hash 0 16 ∷ []) 0x427A0000
+    (hash 41 16 ∷ hash 11 16 ∷ hash 10 16 ∷ hash 40 16 ∷ hash 11 16 ∷ []) (M 3 0x3F19999A 0x3F800000 (pos 11) (pos 176) 0x3F70F0F1)
     -- at twice the time, a clip that starts 20 frames before its recording
-    ∷ judged (ask 0x3_f000000 0x40200000 16 0 1 0 0 0x447_a0000) (hash 10 10 ∷ hash 12 10 ∷ []) 0x447_a0000 (hash 0 20 ∷ hash 4 20 ∷ [])
-    (M 2 0x3_f800000 0x40000000 (negsuc 19) (negsuc 19) 0x3_f000000)
+    ∷ judged (ask 0x3F000000 0x40200000 16 0 1 0 0 0x447A0000) (hash 10 10 ∷ hash 12 10 ∷ []) 0x447A0000 (hash 0 20 ∷ hash 4 20 ∷ [])
+    (M 2 0x3F800000 0x40000000 (negsuc 19) (negsuc 19) 0x3F000000)
     ∷ []
 
 -- "Tolerance 65,535 passes; 65,536 is refused 4." So are 4,097 scale bins and a scale end beyond 64, but not one that `normalize_config` replaces
 limits : List Bool
 limits =
     map beyond
-    (ask 0x3_f4_c_c_c_c_d 0x3_f_a00000 24 65535 2 0 0 0
-    ∷ ask 0x3_f4_c_c_c_c_d 0x3_f_a00000 24 65536 2 0 0 0
-    ∷ ask 0x3_f4_c_c_c_c_d 0x3_f_a00000 4097 1 2 0 0 0
-    ∷ ask 0x3_f4_c_c_c_c_d 0x42800001 24 1 2 0 0 0
-    ∷ ask 0x42800001 0x3_f_a00000 24 1 2 0 0 0
+    (ask 0x3F4CCCCD 0x3FA00000 24 65535 2 0 0 0
+    ∷ ask 0x3F4CCCCD 0x3FA00000 24 65536 2 0 0 0
+    ∷ ask 0x3F4CCCCD 0x3FA00000 4097 1 2 0 0 0
+    ∷ ask 0x3F4CCCCD 0x42800001 24 1 2 0 0 0
+    ∷ ask 0x42800001 0x3FA00000 24 1 2 0 0 0
     ∷ [])
 
 refused : limits ≡ false ∷ true ∷ true ∷ true ∷ false ∷ []

@@ -26,7 +26,7 @@ const FORM: Form = Form {
 };
 
 // What every candidate of a query is judged with: normalised settings, the query's rate, how many hashes it has.
-#[derive(Drop)]
+#[derive(Clone, Copy)]
 pub struct PanakoQuery {
     pub cfg: PanakoMatchConfig,
     pub frames_per_sec: f32,

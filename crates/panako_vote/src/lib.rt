@@ -13,7 +13,7 @@ ghost use Rattle.panako_vote.specs.Words.{middle, lowest, word_of};
 ghost use Rattle.panako_vote.specs.declared.Vote.TheVariants.{At};
 
 // The settings that the index uses.
-#[derive(Drop)]
+#[derive(Clone, Copy)]
 pub struct PanakoMatchConfig {
     pub scale_min: f32,
     pub scale_max: f32,
@@ -97,7 +97,7 @@ pub fn scale_bin(x: f64, last: u32) -> u32
 }
 
 // The scale grid: what is worked out once for all pairs of a query.
-#[derive(Drop)]
+#[derive(Clone, Copy)]
 pub struct ScaleGrid {
     pub scale_min: f64,
     pub scale_per_bin: f64,
@@ -135,7 +135,7 @@ pub fn scale_grid(cfg: PanakoMatchConfig) -> ScaleGrid
 }
 
 // The vote of a query hash and a posting under its key: the scale bin, and the offset in frames.
-#[derive(Drop)]
+#[derive(Clone, Copy)]
 pub enum Vote {
     Nothing,
     At { bin: u32, offset: i64 },
@@ -200,7 +200,7 @@ pub fn pair_vote(g: ScaleGrid, q_anchor: u32, q_end: u32, r_anchor: u32, r_end: 
 }
 
 // What `checked_vote` answers.
-#[derive(Drop)]
+#[derive(Clone, Copy)]
 pub enum CheckedVote {
     Refused,
     Nothing,

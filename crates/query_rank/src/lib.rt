@@ -10,21 +10,21 @@ ghost use Rattle.query_rank.specs.Answers.{best_so_far, finding_answer};
 use matching::MatchResult;
 
 // A candidate that a gate bars, or its result.
-#[derive(Drop)]
+#[derive(Clone, Copy)]
 pub enum Verdict {
     Barred,
     Passed(MatchResult),
 }
 
 // The best candidate so far: its id and its result.
-#[derive(Drop)]
+#[derive(Clone, Copy)]
 pub enum Best {
     Nothing,
     Candidate(u32, MatchResult),
 }
 
 // "best with its result, none, or refused with a number".
-#[derive(Drop)]
+#[derive(Clone, Copy)]
 pub enum Finding {
     Refused(u32),
     Nothing,

@@ -8,7 +8,7 @@ use Rattle.query_search.specs.Starts.{met}
 use Rattle.query_search.specs.Voting.{may_vote, voting}
 
 abbrev row_in : ℕ → Row
-row_in set = record { rate = 0x427_a_0000; rmax = 6; set = set }
+row_in set = record { rate = 0x427A_0000; rmax = 6; set = set }
 
 abbrev references : List ℕ
 references = 3 ∷ 0 ∷ 4 ∷ 0 ∷ flat (row_entries (some (row_in 1) ∷ some (row_in 2) ∷ some (row_in 2) ∷ []) [])

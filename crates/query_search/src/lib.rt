@@ -88,7 +88,7 @@ fn below(x: u32, key: u32) -> u32
 }
 
 // The keys that end the first seven eighths of the postings.
-#[derive(Drop)]
+#[derive(Clone, Copy)]
 pub struct Pivots {
     pub p1: u32,
     pub p2: u32,
@@ -221,7 +221,7 @@ fn first_under(posts: &[u32], w: usize, p: usize, a: usize, key: u32) -> usize
 }
 
 // Whose postings vote in a query: the recordings of a set, 0 for all.
-#[derive(Drop)]
+#[derive(Clone, Copy)]
 pub struct Voters {
     pub set: u32,
 }

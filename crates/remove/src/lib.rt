@@ -13,13 +13,13 @@ use rows::{AT_LIVE, NO_RATE, Row, row_word};
 use slices::{at, size};
 use soundness::refusal_of;
 
-#[derive(Drop)]
+#[derive(Clone, Copy)]
 pub enum LiveCount {
     Refused(u32),
     Count(u32),
 }
 
-#[derive(Drop)]
+#[derive(Clone, Copy)]
 pub enum Removal {
     Refused(u32),
     Removed(bool),

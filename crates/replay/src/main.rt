@@ -35,7 +35,7 @@ const WORDS: usize = 4224;
 const TEXT: usize = 38017;
 
 // The lines and calls so far, the index, the words of the slices that are lent, whether the list goes on, and whether all was as it is to be.
-#[derive(Drop)]
+#[derive(Clone, Copy)]
 struct State {
     lines: u64,
     calls: u64,

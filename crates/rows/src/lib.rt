@@ -32,7 +32,7 @@ pub const SET_MOST: u32 = 255;
 pub const NO_RATE: u32 = floats::NAN_BITS;
 
 // What of the store is in use: rows, vacant entries, postings and stopped keys.
-#[derive(Drop)]
+#[derive(Clone, Copy)]
 pub struct Counts {
     pub rows: usize,
     pub vacant: usize,
@@ -41,7 +41,7 @@ pub struct Counts {
 }
 
 // What a row says of its recording.
-#[derive(Drop)]
+#[derive(Clone, Copy)]
 pub struct Row {
     pub rate: u32,
     pub rmax: u32,
@@ -111,7 +111,7 @@ pub fn put_entry(refs: &mut [u32], i: usize, id: u32)
 fn canonical_rate(rate: u32) -> u32
     ensures { result ≡ canonical rate }
 {
-    if 0x7_f80_0000 < rate % 0x8000_0000 {
+    if 0x7F80_0000 < rate % 0x8000_0000 {
         return NO_RATE;
     }
     rate

@@ -15,7 +15,7 @@ use sheet_card::Progress;
 // ---- reading
 
 // What came of the bytes that were asked for: where they end, whether all came, and where not, whether a read failed or the input ended.
-#[derive(Drop)]
+#[derive(Clone, Copy)]
 pub struct Came {
     pub end: usize,
     pub all: bool,

@@ -46,14 +46,14 @@ small n = word 0 0 0 n
 
 -- 62.5 frames a second
 abbrev rate : List ℕ
-rate = word 0x42 0x7_a 0 0
+rate = word 0x42 0x7A 0 0
 
 abbrev insertion : List ℕ
 insertion = small 0x19 ++ 1 ∷ small 100 ++ rate ++ small 7 ++ small 4 ++ small 9 ++ small 6
 
 abbrev question : List ℕ
 question =
-    small 0x25 ++ 3 ∷ small 0 ++ small 2 ++ word 0x3_f 0 0 0 ++ word 0x40 0 0 0 ++ rate ++ small 7 ++ small 1 ++ small 9 ++ small 3
+    small 0x25 ++ 3 ∷ small 0 ++ small 2 ++ word 0x3F 0 0 0 ++ word 0x40 0 0 0 ++ rate ++ small 7 ++ small 1 ++ small 9 ++ small 3
 
 abbrev removal : List ℕ
 removal = small 5 ++ 2 ∷ small 0
@@ -63,7 +63,7 @@ abbrev misheard : List ℕ
 misheard = small 0x11 ++ 1 ∷ small 100 ++ rate ++ small 5 ++ small 4
 
 abbrev correction : List ℕ
-correction = small 0x1_d ++ 4 ∷ small 0 ++ small 100 ++ rate ++ small 7 ++ small 4 ++ small 9 ++ small 6
+correction = small 0x1D ++ 4 ∷ small 0 ++ small 100 ++ rate ++ small 7 ++ small 4 ++ small 9 ++ small 6
 
 -- document 01's card
 abbrev card : List ℕ

@@ -12,7 +12,7 @@ ghost use Rattle.sheet_card.specs.Turns.{halted, advanced, last_of, turn_of, bod
 ghost use Rattle.sheet_card.specs.Held.{Going, remains, sheet_room, has_room, held_sheet};
 
 // How far a card has been read: the records so far, the offset of the next length field, and whether the card goes on.
-#[derive(Drop)]
+#[derive(Clone, Copy)]
 pub struct Progress {
     pub records: u64,
     pub offset: u64,
@@ -20,7 +20,7 @@ pub struct Progress {
 }
 
 // Where the lines end in the lent buffer, and how far the card has been read.
-#[derive(Drop)]
+#[derive(Clone, Copy)]
 pub struct Turned {
     pub end: usize,
     pub next: Progress,

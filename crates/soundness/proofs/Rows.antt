@@ -23,9 +23,9 @@ canonical-yes rate e = rw (eq-eqb rate no_rate e) (or-true (not (nan_bits binary
     or-true true = refl
     or-true false = refl
 
-pub canonical-test : (rate : ℕ) → (rate ≡ no_rate → ⊥) → leb (rate % 0x8000_0000) 0x7_f80_0000 ≡ is_canonical rate
+pub canonical-test : (rate : ℕ) → (rate ≡ no_rate → ⊥) → leb (rate % 0x8000_0000) 0x7F80_0000 ≡ is_canonical rate
 unfolding is_canonical
-canonical-test rate d = rw (ne_eqb rate no_rate d, nan_bits_above binary32 rate) (turned (rate % 0x8000_0000) 0x7_f80_0000)
+canonical-test rate d = rw (ne_eqb rate no_rate d, nan_bits_above binary32 rate) (turned (rate % 0x8000_0000) 0x7F80_0000)
   where
     turned : (a b : ℕ) → leb a b ≡ not (ltb b a) || false
     turned a b = test (leb a b)

@@ -72,7 +72,7 @@ fn canonical(rate: u32) -> bool
     if rate == NO_RATE {
         return true;
     }
-    rate % 0x8000_0000 <= 0x7_f80_0000
+    rate % 0x8000_0000 <= 0x7F80_0000
 }
 
 // Whether the set of a row in use is 0 where it is dead, and 1 to 255 where it is live.
@@ -370,7 +370,7 @@ pub fn refusal_of(refs: &[u32], posts: &[u32], stops: &[u32], w: usize) -> u32
 }
 
 // What a scan finds that also lists the postings of one recording: why the store is refused, as `refusal_of` says it, and how many there are.
-#[derive(Drop)]
+#[derive(Clone, Copy)]
 pub struct Listing {
     pub number: u32,
     pub own: usize,

@@ -36,7 +36,7 @@ use Rattle.wang_judge.specs.Scheme.{beyond, judge, wang}
 abbrev probe : ℕ → Query wang
 probe set = record {
   ask = record {
-    cfg = record { offset_tolerance_frames = 0; min_votes = 1; min_score = of_bits binary32 0x3_e80_0000; min_prominence = of_bits binary32 0x3_f00_0000 };
+    cfg = record { offset_tolerance_frames = 0; min_votes = 1; min_score = of_bits binary32 0x3E80_0000; min_prominence = of_bits binary32 0x3F00_0000 };
     rate = of_bits binary32 rate;
   };
   set = set;

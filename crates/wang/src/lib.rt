@@ -22,7 +22,7 @@ use wang_judge::WangMatchConfig;
 // The words of a posting: key, id, t_anchor.
 const WIDTH: usize = 3;
 
-#[derive(Drop)]
+#[derive(Clone, Copy)]
 pub struct WangIndex {}
 
 impl WangIndex {

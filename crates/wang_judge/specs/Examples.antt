@@ -56,7 +56,7 @@ abbrev query : List Hash
 query = hash 7 1 ∷ hash 9 3 ∷ []
 
 abbrev row : Row
-row = record { rate = 0x427_a0000; rmax = 6; set = 1 }
+row = record { rate = 0x427A0000; rmax = 6; set = 1 }
 
 abbrev votes : List Vote
 votes = vote_of 0 (hash 7 1) (hash 7 4) ∷ vote_of 1 (hash 9 3) (hash 9 6) ∷ []
@@ -64,25 +64,25 @@ votes = vote_of 0 (hash 7 1) (hash 7 4) ∷ vote_of 1 (hash 9 3) (hash 9 6) ∷ 
 abbrev table : List Example
 table =
     -- "M 0 2 3F800000 40000000 3 48 I"
-    judged (ask 0 2 0x3_f000000 0x40000000 0x427_a0000) query row votes (M 2 0x3_f800000 0x40000000 (pos 3) (pos 48))
+    judged (ask 0 2 0x3F000000 0x40000000 0x427A0000) query row votes (M 2 0x3F800000 0x40000000 (pos 3) (pos 48))
     -- one vote more is asked for
-    ∷ judged (ask 0 3 0x3_f000000 0x40000000 0x427_a0000) query row votes N
+    ∷ judged (ask 0 3 0x3F000000 0x40000000 0x427A0000) query row votes N
     -- the prominence is just below what is asked for
-    ∷ judged (ask 0 2 0x3_f000000 0x40000001 0x427_a0000) query row votes N
+    ∷ judged (ask 0 2 0x3F000000 0x40000001 0x427A0000) query row votes N
     -- a NaN as a gate bars all
-    ∷ judged (ask 0 2 0x7_f_c00000 0x40000000 0x427_a0000) query row votes N
+    ∷ judged (ask 0 2 0x7FC00000 0x40000000 0x427A0000) query row votes N
     -- rates 62.4 and 62.5 don't agree
-    ∷ judged (ask 0 2 0x3_f000000 0x40000000 0x4279999_a) query row votes N
+    ∷ judged (ask 0 2 0x3F000000 0x40000000 0x4279999A) query row votes N
     -- two votes of one position: two votes, and one distinct position of two
-    ∷ judged (ask 0 1 0 0 0x427_a0000) query row
-    (record { delta = pos 3; position = 0 } ∷ record { delta = pos 3; position = 0 } ∷ []) (M 2 0x3_f000000 0x40000000 (pos 3) (pos 48))
+    ∷ judged (ask 0 1 0 0 0x427A0000) query row
+    (record { delta = pos 3; position = 0 } ∷ record { delta = pos 3; position = 0 } ∷ []) (M 2 0x3F000000 0x40000000 (pos 3) (pos 48))
     -- three votes at δ 0, tolerance 2, span 0 .. 4: the greatest sum is that of centres 0 to 2, whose midpoint is 1; the mode, 0, is reported
-    ∷ judged (ask 2 3 0x3_f800000 0x3_f99999_a 0x447_a0000) (hash 7 0 ∷ hash 8 0 ∷ hash 9 0 ∷ []) (record { rate = 0x447_a0000; rmax = 4; set = 1 })
+    ∷ judged (ask 2 3 0x3F800000 0x3F99999A 0x447A0000) (hash 7 0 ∷ hash 8 0 ∷ hash 9 0 ∷ []) (record { rate = 0x447A0000; rmax = 4; set = 1 })
     (record { delta = pos 0; position = 0 } ∷ record { delta = pos 0; position = 1 } ∷ record { delta = pos 0; position = 2 } ∷ [])
-    (M 3 0x3_f800000 0x3_f99999_a (pos 0) (pos 0))
+    (M 3 0x3F800000 0x3F99999A (pos 0) (pos 0))
     -- a clip that starts before its recording: δ −2
-    ∷ judged (ask 1 1 0 0 0x447_a0000) (hash 7 2 ∷ []) (record { rate = 0x447_a0000; rmax = 1; set = 1 })
-    (record { delta = negsuc 1; position = 0 } ∷ []) (M 1 0x3_f800000 0x3_f400000 (negsuc 1) (negsuc 1))
+    ∷ judged (ask 1 1 0 0 0x447A0000) (hash 7 2 ∷ []) (record { rate = 0x447A0000; rmax = 1; set = 1 })
+    (record { delta = negsuc 1; position = 0 } ∷ []) (M 1 0x3F800000 0x3F400000 (negsuc 1) (negsuc 1))
     ∷ []
 
 right : All table

@@ -18,7 +18,7 @@ use consolidate::Peak;
 use query_rank::Verdict;
 
 // The settings that the index uses.
-#[derive(Drop)]
+#[derive(Clone, Copy)]
 pub struct WangMatchConfig {
     pub offset_tolerance_frames: u32,
     pub min_votes: u32,
@@ -44,7 +44,7 @@ pub fn config_of(
 }
 
 // What every candidate of a query is judged with: settings, the query's rate, its largest anchor, how many hashes it has.
-#[derive(Drop)]
+#[derive(Clone, Copy)]
 pub struct WangQuery {
     pub cfg: WangMatchConfig,
     pub frames_per_sec: f32,

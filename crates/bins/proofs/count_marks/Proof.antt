@@ -9,45 +9,45 @@ use native.Mathlib.Omega.{arith}
 use Rattle.bins.proofs.count_marks.Statement.{statement}
 use Rattle.bins.proofs.count_marks.Tie as tie
 
-abbrev invariant-loop : tie.invariant-loop
+abbrev invariant-loop : tie.invariant-loop-i
 invariant-loop seen m n₀ i₀ n i = (i ≤ m) × (n ≡ sum_to (λ j. get_or seen j 0) i) × (n ≤ i)
 
-abbrev decreases-loop : tie.decreases-loop
+abbrev decreases-loop : tie.decreases-loop-i
 decreases-loop seen m n₀ i₀ n i = m - i
 
-loop-holds : tie.Need-loop-init invariant-loop decreases-loop
+loop-holds : tie.Need-loop-i-init invariant-loop decreases-loop
 loop-holds c = (omega arith, sym (sum-zero (λ j. get_or c.args.seen.now j 0)), omega arith)
 
-element-copy-out-wide-byte : tie.Need-element-copy-out-wide-byte invariant-loop decreases-loop
+element-copy-out-wide-byte : tie.Need-bounds-seen-i invariant-loop decreases-loop
 element-copy-out-wide-byte c = search rules
 
-wide-byte-requires : tie.Need-wide-byte-requires invariant-loop decreases-loop
+wide-byte-requires : tie.Need-wide_byte-n-requires invariant-loop decreases-loop
 wide-byte-requires c κs = search rules
 
-add-n : tie.Need-overflow-add-n invariant-loop decreases-loop
+add-n : tie.Need-overflow_add-n invariant-loop decreases-loop
 add-n c =
-    let o = c.before.before.before.before in
-    record { fits = omega (arith, c.wide-byte.ensures.0, o.requires.1 c.before.before.before.loop.i (omega arith)) }
+    let o = c in
+    record { fits = omega (arith, c.wide_byte-n.ensures.0, o.requires.1 c.loop-i.i (omega arith)) }
 
-add-i : tie.Need-overflow-add-i invariant-loop decreases-loop
+add-i : tie.Need-overflow_add-i invariant-loop decreases-loop
 add-i c = search rules
 
-loop-less : tie.Need-loop-smaller invariant-loop decreases-loop
+loop-less : tie.Need-loop-i-smaller invariant-loop decreases-loop
 loop-less c = search rules
 
-loop-again : tie.Need-loop-preserved invariant-loop decreases-loop
+loop-again : tie.Need-loop-i-preserved invariant-loop decreases-loop
 loop-again c =
-    let o = c.before.before.before.before in
-    let i = c.before.before.before.loop.i in
-    (omega arith, omega (arith, c.wide-byte.ensures.0, sum-next (λ j. get_or o.args.seen.now j 0) i), omega (arith, c.wide-byte.ensures.0, o.requires.1 i (omega arith)))
+    let o = c in
+    let i = c.loop-i.i in
+    (omega arith, omega (arith, c.wide_byte-n.ensures.0, sum-next (λ j. get_or o.args.seen.now j 0) i), omega (arith, c.wide_byte-n.ensures.0, o.requires.1 i (omega arith)))
 
 returns : tie.Need-returns invariant-loop decreases-loop
 returns c =
-    let e : c.before.loop.i ≡ c.before.before.args.m = omega arith in
-    rw e at c.before.loop.invariant.1
+    let e : c.loop-i.i ≡ c.args.m = omega arith in
+    rw e at c.loop-i.invariant.1
 
-pub count-marks-spec : {M : Type 1} → statement M
-count-marks-spec =
+pub count_marks_spec : {M : Type 1} → statement M
+count_marks_spec =
     tie.close
     (tie.spec
     invariant-loop

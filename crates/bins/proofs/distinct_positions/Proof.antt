@@ -11,23 +11,23 @@ use Rattle.bins.proofs.distinct_positions.Tie as tie
 
 mark-requires : tie.Need-mark-requires
 mark-requires c κs =
-    let o = c.before in
+    let o = c in
     (o.requires.0, o.requires.1, o.requires.2, zeros 2048, refl)
 
-count-marks-requires : tie.Need-count-marks-requires
+count-marks-requires : tie.Need-count_marks-requires
 count-marks-requires c κs =
-    let o = c.before.before.before in
+    let o = c in
     let a = o.args in
-    (o.requires.3, λ i h. omega (arith, c.before.mark.ensures i (omega arith), marked-le a.tol a.x (places a.s.now a.a) (positions a.s.now a.a) a.g i))
+    (o.requires.3, λ i h. omega (arith, c.mark.ensures i (omega arith), marked-le a.tol a.x (places a.s.now a.a) (positions a.s.now a.a) a.g i))
 
 returns : tie.Need-returns
 unfolding distinct_near
 returns c =
-    let o = c.before.before.before.before in
+    let o = c in
     let a = o.args in
-    let m = c.before.before.mark in
-    c.count-marks.ensures
-    ∙ sum-cong (λ i. get_or m.new.0 i 0) (marked a.tol a.x (places a.s.now a.a) (positions a.s.now a.a) a.g) a.m (λ i h. m.ensures i (omega arith))
+    let m = c.mark in
+    c.count_marks.ensures
+    ∙ sum-cong (λ i. get_or m.new.seen i 0) (marked a.tol a.x (places a.s.now a.a) (positions a.s.now a.a) a.g) a.m (λ i h. m.ensures i (omega arith))
 
-pub distinct-positions-spec : {M : Type 1} → statement M
-distinct-positions-spec = tie.close (tie.spec mark-requires count-marks-requires returns)
+pub distinct_positions_spec : {M : Type 1} → statement M
+distinct_positions_spec = tie.close (tie.spec mark-requires count-marks-requires returns)

@@ -18,14 +18,14 @@ rest-is n k h =
     let e = ap (λ (x : ℕ). bit_and n (x - 1)) (unit-is k h) ∙ and_mask n k in
     (e, subst (λ (x : ℕ). x < 2 ^ 52) (sym e) (lt_of_lt_of_le (mod-lt n (pow_pos k)) (pow_mono h)))
 
-shl-unit : tie.Need-overflow-shl-unit
+shl-unit : tie.Need-overflow_shl-unit
 shl-unit c = search rules
 
-sub-result : tie.Need-overflow-sub-result
+sub-result : tie.Need-overflow_sub-result
 sub-result c = subst (λ (x : ℕ). 1 ≤ x) (sym (unit-is c.args.size c.requires)) (pow_pos c.args.size)
 
 returns : tie.Need-returns
 returns c = rest-is c.args.x c.args.size c.requires
 
-pub last-bits-spec : {M : Type 1} → statement M
-last-bits-spec = tie.close (tie.spec shl-unit sub-result returns)
+pub last_bits_spec : {M : Type 1} → statement M
+last_bits_spec = tie.close (tie.spec shl-unit sub-result returns)

@@ -6,15 +6,15 @@ use borrow.Author.Rules.{rules}
 use Rattle.bins.proofs.position_at.Statement.{statement}
 use Rattle.bins.proofs.position_at.Tie as tie
 
-add-word-above : tie.Need-overflow-add-word-above
+add-word-above : tie.Need-overflow_add-a
 add-word-above c = search rules
 
-word-above-requires : tie.Need-word-above-requires
+word-above-requires : tie.Need-word_above-requires
 word-above-requires c κs = search rules
 
 returns : tie.Need-returns
 unfolding positions
-returns c = rw c.word-above.ensures (refl, omega arith)
+returns c = rw c.word_above.ensures (refl, omega arith)
 
-pub position-at-spec : {M : Type 1} → statement M
-position-at-spec = tie.close (tie.spec add-word-above word-above-requires returns)
+pub position_at_spec : {M : Type 1} → statement M
+position_at_spec = tie.close (tie.spec add-word-above word-above-requires returns)

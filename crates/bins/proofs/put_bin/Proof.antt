@@ -26,45 +26,45 @@ scaled-words f s s₁ s₂ j middle code count e p q = rw e (q ∙ ap (λ (l : L
 plain-words : (f : Form) (s s₁ : List ℤ) (j middle code count : ℕ) → f.scaled ≡ false → s₁ ≡ stored s j (offset_words middle code count) → s₁ ≡ stored s j (bin_words f middle code count)
 plain-words f s s₁ j middle code count e p = rw e p
 
-put-word-requires : tie.Need-put-word-requires
-put-word-requires c κs = let w = with-scale c.before.before.args.f c.before.if1.true in (omega arith, omega arith)
+put-word-requires : tie.Need-put_word-requires
+put-word-requires c κs = let w = with-scale c.args.f c.if-f.true in (omega arith, omega arith)
 
-add-put-offset : tie.Need-overflow-add-put-offset
+add-put-offset : tie.Need-overflow_add-j
 add-put-offset c = search rules
 
-put-offset-requires : tie.Need-put-offset-requires
-put-offset-requires c κs = let o = c.before.before.before.before.before in let w = with-scale o.args.f c.before.before.before.before.if1.true in (omega arith, omega arith, o.requires.2, o.requires.3)
+put-offset-requires : tie.Need-put_offset-requires
+put-offset-requires c κs = let o = c in let w = with-scale o.args.f c.if-f.true in (omega arith, omega arith, o.requires.2, o.requires.3)
 
-add-result : tie.Need-overflow-add-result
+add-result : tie.Need-overflow_add-result
 add-result c = search rules
 
-same_length : tie.Need-same-length
+same_length : tie.Need-shape_of-s-then-f
 same_length c = search rules
 
-returns : tie.Need-returns
+returns : tie.Need-returns-then-f
 returns c =
-    let w = c.before.before.before.before in
-    let o = w.before.before.before in
-    let e = with-scale o.args.f w.before.before.if1.true in
-    (omega arith, scaled-words o.args.f o.args.s.now w.put_word.new.0 c.before.put-offset.new.0 o.args.j o.args.middle o.args.code o.args.count w.before.before.if1.true w.put_word.ensures c.before.put-offset.ensures)
+    let w = c in
+    let o = w in
+    let e = with-scale o.args.f w.if-f.true in
+    (omega arith, scaled-words o.args.f o.args.s.now w.put_word.new.s c.put_offset.new.s o.args.j o.args.middle o.args.code o.args.count w.if-f.true w.put_word.ensures c.put_offset.ensures)
 
-put-offset-requires-2 : tie.Need-put-offset-requires-2
-put-offset-requires-2 c κs = let o = c.before.before in let w = without o.args.f c.before.if1.false in (omega arith, o.requires.1, o.requires.2, o.requires.3)
+put-offset-requires-2 : tie.Need-put_offset-requires-2
+put-offset-requires-2 c κs = let o = c in let w = without o.args.f c.if-f.false in (omega arith, o.requires.1, o.requires.2, o.requires.3)
 
-add-result-2 : tie.Need-overflow-add-result-2
+add-result-2 : tie.Need-overflow_add-result-2
 add-result-2 c = search rules
 
-same-length-2 : tie.Need-same-length-2
+same-length-2 : tie.Need-shape_of-s
 same-length-2 c = search rules
 
-returns-2 : tie.Need-returns-2
+returns-2 : tie.Need-returns
 returns-2 c =
-    let o = c.before.before.before.before in
-    let e = without o.args.f c.before.before.before.if1.false in
-    (omega arith, plain-words o.args.f o.args.s.now c.before.put-offset2.new.0 o.args.j o.args.middle o.args.code o.args.count c.before.before.before.if1.false c.before.put-offset2.ensures)
+    let o = c in
+    let e = without o.args.f c.if-f.false in
+    (omega arith, plain-words o.args.f o.args.s.now c.put_offset-2.new.s o.args.j o.args.middle o.args.code o.args.count c.if-f.false c.put_offset-2.ensures)
 
-pub put-bin-spec : {M : Type 1} → statement M
-put-bin-spec =
+pub put_bin_spec : {M : Type 1} → statement M
+put_bin_spec =
     tie.close
     (tie.spec
     put-word-requires

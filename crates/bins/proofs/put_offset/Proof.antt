@@ -18,38 +18,38 @@ fits x top h k = fits-abs (pos x -ℤ pos top) (omega (arith, abs-sub (pos x) (p
 value : (x top : ℕ) → x < 2 ^ 52 → top < 2 ^ 40 → to_z w64 (of_z w64 (to_z w64 x -ℤ to_z w64 top)) ≡ neg_ℤ (pos top) +ℤ pos x
 value x top h k = rw (number_is x (omega arith), number_is top (omega arith)) (word-is (pos x -ℤ pos top) (fits x top h k) ∙ +ℤ_comm (pos x) (neg_ℤ (pos top)))
 
-cast-y : tie.Need-overflow-cast-y
+cast-y : tie.Need-overflow_cast-y
 cast-y c = search rules
 
-cast_t : tie.Need-overflow-cast-t
+cast_t : tie.Need-overflow_cast-t
 cast_t c = search rules
 
-sub-s : tie.Need-overflow-sub-s
+sub-s : tie.Need-overflow_sub-s
 sub-s c = rw (number_is c.args.x (omega arith), number_is c.args.middle (omega arith)) (fits c.args.x c.args.middle c.requires.1 c.requires.3)
 
-mul-t9 : tie.Need-overflow-mul-t9
+mul-t9 : tie.Need-offset_bounds-s-j
 mul-t9 c = search rules
 
-slice-set-from-s : tie.Need-slice-set-from-s
+slice-set-from-s : tie.Need-bounds-s-j
 slice-set-from-s c = search rules
 
-add-put-word : tie.Need-overflow-add-put-word
+add-put-word : tie.Need-overflow_add-j
 add-put-word c = search rules
 
-put-word-requires : tie.Need-put-word-requires
+put-word-requires : tie.Need-put_word-requires
 put-word-requires c κs = search rules
 
-same_length : tie.Need-same-length
-same_length c = simp length-set at c.before.put_word.auto.0
+same_length : tie.Need-shape_of-s
+same_length c = simp length-set at c.put_word.auto.s
 
 returns : tie.Need-returns
 returns c =
-    let o = c.before.before.before in
-    c.before.put_word.ensures
+    let o = c in
+    c.put_word.ensures
     ∙ ap (λ (z : ℤ). set (set o.args.s.now o.args.j z) (o.args.j + 1) (pos o.args.count)) (value o.args.x o.args.middle o.requires.1 o.requires.3)
 
-pub put-offset-spec : {M : Type 1} → statement M
-put-offset-spec =
+pub put_offset_spec : {M : Type 1} → statement M
+put_offset_spec =
     tie.close
     (tie.spec
     cast-y

@@ -9,56 +9,56 @@ use Rattle.consolidate.specs.Limits.{bin_ok, bins_ok}
 use Rattle.consolidate.proofs.bins_ok.Statement.{statement}
 use Rattle.consolidate.proofs.bins_ok.Tie as tie
 
-abbrev invariant-loop : tie.invariant-loop
+abbrev invariant-loop : tie.invariant-loop-i
 invariant-loop s n i₀ i = (i ≤ n) × (every i (bin_ok s) ≡ true)
 
-abbrev decreases-loop : tie.decreases-loop
+abbrev decreases-loop : tie.decreases-loop-i
 decreases-loop s n i₀ i = n - i
 
-returns : tie.Need-returns invariant-loop decreases-loop
+returns : tie.Need-returns-then-n-gt1000000 invariant-loop decreases-loop
 unfolding bins_ok
-returns c = rw (lt-leb _ _ c.if1.true) refl
+returns c = rw (lt-leb _ _ c.if-n-gt1000000.true) refl
 
-mul-if2 : tie.Need-overflow-mul-if2 invariant-loop decreases-loop
-mul-if2 c = omega (arith, c.if1.false)
+mul-if2 : tie.Need-overflow_mul-n invariant-loop decreases-loop
+mul-if2 c = omega (arith, c.if-n-gt1000000.false)
 
-returns-2 : tie.Need-returns-2 invariant-loop decreases-loop
+returns-2 : tie.Need-returns-then-n-s invariant-loop decreases-loop
 unfolding bins_ok
-returns-2 c = rw (le-leb _ _ c.before.if1.false, lt-leb _ _ c.if2.true) refl
+returns-2 c = rw (le-leb _ _ c.if-n-gt1000000.false, lt-leb _ _ c.if-n-s.true) refl
 
-loop-holds : tie.Need-loop-init invariant-loop decreases-loop
+loop-holds : tie.Need-loop-i-init invariant-loop decreases-loop
 loop-holds c = (omega arith, every-none _)
 
-bin-ok-requires : tie.Need-bin-ok-requires invariant-loop decreases-loop
+bin-ok-requires : tie.Need-bin_ok-requires invariant-loop decreases-loop
 bin-ok-requires c κs = omega arith
 
-returns-3 : tie.Need-returns-3 invariant-loop decreases-loop
+returns-3 : tie.Need-returns-then-not-bin_ok invariant-loop decreases-loop
 unfolding bins_ok
 returns-3 c =
-    let h = c.before.before.before in
-    let o = h.before in
-    rw (le-leb _ _ o.before.if1.false, le-leb _ _ o.if2.false)
-    (sym (every-fail _ _ h.loop.i (omega arith) (sym c.before.bin-ok.ensures ∙ not-true _ c.if3.true)))
+    let h = c in
+    let o = h in
+    rw (le-leb _ _ o.if-n-gt1000000.false, le-leb _ _ o.if-n-s.false)
+    (sym (every-fail _ _ h.loop-i.i (omega arith) (sym c.bin_ok.ensures ∙ c.if-not-bin_ok.true)))
 
-add-i : tie.Need-overflow-add-i invariant-loop decreases-loop
+add-i : tie.Need-overflow_add-i invariant-loop decreases-loop
 add-i c = omega arith
 
-loop-less : tie.Need-loop-smaller invariant-loop decreases-loop
+loop-less : tie.Need-loop-i-smaller invariant-loop decreases-loop
 loop-less c = omega arith
 
-loop-again : tie.Need-loop-preserved invariant-loop decreases-loop
-loop-again c = (omega arith, every_more _ _ c.before.before.before.loop.invariant.1 (sym c.before.bin-ok.ensures ∙ not-false _ c.if3.false))
+loop-again : tie.Need-loop-i-preserved invariant-loop decreases-loop
+loop-again c = (omega arith, every_more _ _ c.loop-i.invariant.1 (sym c.bin_ok.ensures ∙ c.if-not-bin_ok.false))
 
-returns-4 : tie.Need-returns-4 invariant-loop decreases-loop
+returns-4 : tie.Need-returns invariant-loop decreases-loop
 unfolding bins_ok
 returns-4 c =
-    let h = c.before in
-    let o = h.before in
-    let e : h.loop.i ≡ o.before.before.args.n = omega arith in
-    rw (le-leb _ _ o.before.if1.false, le-leb _ _ o.if2.false) (sym (rw e at h.loop.invariant.1))
+    let h = c in
+    let o = h in
+    let e : h.loop-i.i ≡ o.args.n = omega arith in
+    rw (le-leb _ _ o.if-n-gt1000000.false, le-leb _ _ o.if-n-s.false) (sym (rw e at h.loop-i.invariant.1))
 
-pub bins-ok-spec : {M : Type 1} → statement M
-bins-ok-spec =
+pub bins_ok_spec : {M : Type 1} → statement M
+bins_ok_spec =
     tie.close
     (tie.spec
     invariant-loop

@@ -32,25 +32,25 @@ num-is o =
     rw (sum_is o, to_z-of_z w64 (pos 2 *ℤ o.args.sum) (twice-fits o), m-is o)
     (to_z-of_z w64 (pos 2 *ℤ o.args.sum -ℤ pos o.args.m) (num-fits o))
 
-cast-k : tie.Need-overflow-cast-k
+cast-k : tie.Need-overflow_cast-k
 cast-k c = search rules
 
-mul-num : tie.Need-overflow-mul-num
+mul-num : tie.Need-overflow_mul-num
 mul-num c = rw (sum_is c) (twice-fits c)
 
-sub-num : tie.Need-overflow-sub-num
+sub-num : tie.Need-overflow_sub-num
 sub-num c = rw (sum_is c, to_z-of_z w64 (pos 2 *ℤ c.args.sum) (twice-fits c), m-is c) (num-fits c)
 
-mul-ceil-div : tie.Need-overflow-mul-ceil-div
+mul-ceil-div : tie.Need-overflow_mul-m
 mul-ceil-div c = search rules
 
-ceil-div-requires : tie.Need-ceil-div-requires
+ceil-div-requires : tie.Need-ceil_div-requires
 ceil-div-requires c κs = rw (num-is c) (omega (arith, num-small c), omega arith, omega arith)
 
 returns : tie.Need-returns
 returns c =
-    to_z-of_z w64 c.ceil-div.result (record { sfits = c.ceil-div.type-inv })
-    ∙ rw (num-is c.before) at c.ceil-div.ensures
+    to_z-of_z w64 c.ceil_div.result (record { sfits = c.ceil_div.type_inv })
+    ∙ rw (num-is c.before) at c.ceil_div.ensures
 
-pub nearest-mean-spec : {M : Type 1} → statement M
-nearest-mean-spec = tie.close (tie.spec cast-k mul-num sub-num mul-ceil-div ceil-div-requires returns)
+pub nearest_mean_spec : {M : Type 1} → statement M
+nearest_mean_spec = tie.close (tie.spec cast-k mul-num sub-num mul-ceil-div ceil-div-requires returns)

@@ -24,34 +24,34 @@ span_fits o = fits-abs (o.args.high -ℤ o.args.low) (omega (arith, span-wide _ 
 span-is : (o : tie.Start) → to_z w64 (of_z w64 (o.args.high -ℤ o.args.low)) ≡ o.args.high -ℤ o.args.low
 span-is o = to_z-of_z w64 (o.args.high -ℤ o.args.low) (span_fits o)
 
-returns : tie.Need-returns
+returns : tie.Need-returns-then-n-eq0
 unfolding box_peak
-returns c = rw (low-is c.before, eq-eqb _ _ c.if1.true) refl
+returns c = rw (low-is c.before, eq-eqb _ _ c.if-n-eq0.true) refl
 
-sub-span : tie.Need-overflow-sub-span
+sub-span : tie.Need-overflow_sub-span
 sub-span c = let o = c.before in rw (high_is o, low-is o) (span_fits o)
 
-cast-width : tie.Need-overflow-cast-width
+cast-width : tie.Need-overflow_cast-width
 cast-width c =
     let o = c.before in
-    rw (high_is o, low-is o, span-is o) (span-up _ _ _ _ _ o.requires (omega (arith, c.if1.false)), record { fits = omega (arith, span-wide _ _ _ _ _ o.requires) })
+    rw (high_is o, low-is o, span-is o) (span-up _ _ _ _ _ o.requires (omega (arith, c.if-n-eq0.false)), record { fits = omega (arith, span-wide _ _ _ _ _ o.requires) })
 
-add-width : tie.Need-overflow-add-width
+add-width : tie.Need-overflow_add-width
 add-width c = let o = c.before in rw (high_is o, low-is o, span-is o) (omega (arith, span-wide _ _ _ _ _ o.requires))
 
-peak-over-requires : tie.Need-peak-over-requires
+peak-over-requires : tie.Need-peak_over-requires
 peak-over-requires c κs =
     let o = c.before in
     rw (high_is o, low-is o, span-is o)
     (span-placed _ _ _ _ _ o.requires, o.requires.reach, omega arith, omega (arith, span-wide _ _ _ _ _ o.requires), omega (arith, o.requires.bottom))
 
-returns-2 : tie.Need-returns-2
+returns-2 : tie.Need-returns
 unfolding box_peak
 returns-2 c =
     let o = c.before.before in
-    rw (high_is o, low-is o, span-is o) at c.peak-over.ensures
-    ∙ rw (ne_eqb _ _ c.before.if1.false, window-is o.args.s.now o.args.low o.args.n (span-placed _ _ _ _ _ o.requires) o.args.tol) refl
+    rw (high_is o, low-is o, span-is o) at c.peak_over.ensures
+    ∙ rw (ne_eqb _ _ c.if-n-eq0.false, window-is o.args.s.now o.args.low o.args.n (span-placed _ _ _ _ _ o.requires) o.args.tol) refl
 
-pub sparse-wang-box-peak-spec : {M : Type 1} → statement M
-sparse-wang-box-peak-spec =
+pub sparse_wang_box_peak_spec : {M : Type 1} → statement M
+sparse_wang_box_peak_spec =
     tie.close (tie.spec returns sub-span cast-width add-width peak-over-requires returns-2)

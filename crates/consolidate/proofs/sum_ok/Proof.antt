@@ -18,13 +18,13 @@ use Rattle.consolidate.proofs.sum_ok.Tie as tie
 abbrev term : List ℤ → ℕ → ℕ → ℕ → ℕ
 term l stride field k = nat_abs (get_or l (stride * k + field) (pos 0))
 
-abbrev invariant-loop : tie.invariant-loop
+abbrev invariant-loop : tie.invariant-loop-i
 invariant-loop s n stride field sum₀ i₀ sum i = (i ≤ n) × (sum ≡ sum_to (term s stride field) i) × (sum ≤ 1000000)
 
-abbrev decreases-loop : tie.decreases-loop
+abbrev decreases-loop : tie.decreases-loop-i
 decreases-loop s n stride field sum₀ i₀ sum i = n - i
 
-loop-holds : tie.Need-loop-init invariant-loop decreases-loop
+loop-holds : tie.Need-loop-i-init invariant-loop decreases-loop
 unfolding sum_to
 loop-holds c = (omega arith, refl, omega arith)
 
@@ -35,67 +35,67 @@ inside w f i n len h u k =
     let b : w * (i + 1) ≡ w * i + w = rw (add-one, mul-suc) (omega arith) in
     omega arith
 
-at : (c : tie.In-loop invariant-loop decreases-loop) → let a = c.before.before.args in a.stride * c.before.loop.i + a.field < length a.s.now
-at c = let o = c.before.before in inside _ _ _ _ _ o.requires.0 c.loop-test.true o.requires.1
+at : (c : tie.In-loop-i invariant-loop decreases-loop) → let a = c.args in a.stride * c.loop-i.i + a.field < length a.s.now
+at c = let o = c in inside _ _ _ _ _ o.requires.0 c.loop-i-test.true o.requires.1
 
-mul-word-at : tie.Need-overflow-mul-word-at invariant-loop decreases-loop
+mul-word-at : tie.Need-overflow_mul-stride invariant-loop decreases-loop
 mul-word-at c = omega (arith, at c)
 
-add-word-at : tie.Need-overflow-add-word-at invariant-loop decreases-loop
+add-word-at : tie.Need-overflow_add-stride invariant-loop decreases-loop
 add-word-at c = omega (arith, at c)
 
-word-at-requires : tie.Need-word-at-requires invariant-loop decreases-loop
+word-at-requires : tie.Need-word_at-requires invariant-loop decreases-loop
 word-at-requires c κs = at c
 
-unsigned-abs-requires : tie.Need-unsigned-abs-requires invariant-loop decreases-loop
+unsigned-abs-requires : tie.Need-unsigned_abs-sum-requires invariant-loop decreases-loop
 unsigned-abs-requires c κs = tt
 
 -- the magnitude of the word at hand
-read : (c : tie.After-unsigned-abs invariant-loop decreases-loop) → let h = c.before.before.before in let a = h.before.args in
-    (c.unsigned_abs.result ≡ term a.s.now a.stride a.field h.loop.i) × (c.unsigned_abs.result ≤ 0x8000_0000_0000_0000)
+read : (c : tie.After-unsigned_abs-sum invariant-loop decreases-loop) → let h = c in let a = h.args in
+    (c.unsigned_abs-sum.result ≡ term a.s.now a.stride a.field h.loop-i.i) × (c.unsigned_abs-sum.result ≤ 0x8000_0000_0000_0000)
 read c =
-    let w = c.before.word_at in
-    let e = rw (to_z-of_z w64 w.result (record { sfits = w.type-inv })) at c.unsigned_abs.ensures in
-    (rw w.ensures at e, omega (arith, e, nat_abs-le w.result w.type-inv))
+    let w = c.word_at in
+    let e = rw (to_z-of_z w64 w.result (record { sfits = w.type_inv })) at c.unsigned_abs-sum.ensures in
+    (rw w.ensures at e, omega (arith, e, nat_abs-le w.result w.type_inv))
 
-add-sum : tie.Need-overflow-add-sum invariant-loop decreases-loop
+add-sum : tie.Need-overflow_add-sum invariant-loop decreases-loop
 add-sum c = omega (arith, (read c).1)
 
 -- the sum with that word
-next : (c : tie.After-unsigned-abs invariant-loop decreases-loop) → let h = c.before.before.before in let a = h.before.args in
-    h.loop.sum + c.unsigned_abs.result ≡ sum_to (term a.s.now a.stride a.field) (h.loop.i + 1)
+next : (c : tie.After-unsigned_abs-sum invariant-loop decreases-loop) → let h = c in let a = h.args in
+    h.loop-i.sum + c.unsigned_abs-sum.result ≡ sum_to (term a.s.now a.stride a.field) (h.loop-i.i + 1)
 next c =
-    let h = c.before.before.before in
-    let a = h.before.args in
-    omega (arith, h.loop.invariant.1, (read c).0, sum-next (term a.s.now a.stride a.field) h.loop.i)
+    let h = c in
+    let a = h.args in
+    omega (arith, h.loop-i.invariant.1, (read c).0, sum-next (term a.s.now a.stride a.field) h.loop-i.i)
 
-returns : tie.Need-returns invariant-loop decreases-loop
+returns : tie.Need-returns-then-sum-gt1000000 invariant-loop decreases-loop
 returns c =
     let u = c.before in
-    let h = u.before.before.before in
-    let a = h.before.args in
+    let h = u in
+    let a = h.args in
     let f = term a.s.now a.stride a.field in
-    sym (lt-leb (sum_to f a.n) 1000000 (omega (arith, c.if1.true, next u, sum_mono f (h.loop.i + 1) a.n (omega arith))))
+    sym (lt-leb (sum_to f a.n) 1000000 (omega (arith, c.if-sum-gt1000000.true, next u, sum_mono f (h.loop-i.i + 1) a.n (omega arith))))
 
-add-i : tie.Need-overflow-add-i invariant-loop decreases-loop
+add-i : tie.Need-overflow_add-i invariant-loop decreases-loop
 add-i c = omega arith
 
-loop-less : tie.Need-loop-smaller invariant-loop decreases-loop
+loop-less : tie.Need-loop-i-smaller invariant-loop decreases-loop
 loop-less c = omega arith
 
-loop-again : tie.Need-loop-preserved invariant-loop decreases-loop
+loop-again : tie.Need-loop-i-preserved invariant-loop decreases-loop
 loop-again c = (omega arith, next c.before, omega arith)
 
-returns-2 : tie.Need-returns-2 invariant-loop decreases-loop
+returns-2 : tie.Need-returns invariant-loop decreases-loop
 returns-2 c =
-    let h = c.before in
-    let a = h.before.args in
-    let e : h.loop.i ≡ a.n = omega arith in
-    let s : h.loop.sum ≡ sum_to (term a.s.now a.stride a.field) a.n = rw e at h.loop.invariant.1 in
+    let h = c in
+    let a = h.args in
+    let e : h.loop-i.i ≡ a.n = omega arith in
+    let s : h.loop-i.sum ≡ sum_to (term a.s.now a.stride a.field) a.n = rw e at h.loop-i.invariant.1 in
     sym (le-leb (sum_to (term a.s.now a.stride a.field) a.n) 1000000 (omega arith))
 
-pub sum-ok-spec : {M : Type 1} → statement M
-sum-ok-spec =
+pub sum_ok_spec : {M : Type 1} → statement M
+sum_ok_spec =
     tie.close
     (tie.spec
     invariant-loop

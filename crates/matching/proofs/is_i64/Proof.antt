@@ -9,5 +9,5 @@ returns : tie.Need-returns
 unfolding in_i64 of_bits neg
 returns c = refl
 
-pub is-i64-spec : {M : Type 1} → statement M
-is-i64-spec = tie.close (tie.spec returns)
+pub is_i64_spec : {M : Type 1} → statement M
+is_i64_spec = tie.close (tie.spec returns)

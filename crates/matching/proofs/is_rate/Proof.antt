@@ -33,13 +33,13 @@ not-above (fin false (suc m) e) h =
     some : (m u d : ℕ) → 0 < u → 0 * 1 * d < suc m * u * 1
     some m u d U = subst (λ (k : ℕ). k < suc m * u * 1) (sym (zero-mul d)) (mul-pos (mul-pos (zero-lt-suc m) U) (zero-lt-suc 0))
 
-returns : tie.Need-returns
+returns : tie.Need-returns-then-x
 unfolding of_bits div
-returns c = finite c.before.args.x c.if1.true
+returns c = finite c.args.x c.if-x.true
 
-returns-2 : tie.Need-returns-2
+returns-2 : tie.Need-returns-else-x
 unfolding of_bits
-returns-2 c = c.if1.false ∙ not-above c.before.args.x c.if1.false
+returns-2 c = c.if-x.false ∙ not-above c.args.x c.if-x.false
 
-pub is-rate-spec : {M : Type 1} → statement M
-is-rate-spec = tie.close (tie.spec returns returns-2)
+pub is_rate_spec : {M : Type 1} → statement M
+is_rate_spec = tie.close (tie.spec returns returns-2)

@@ -19,22 +19,22 @@ product : (y rate : Float) → div binary64 (mul binary64 y (of_bits binary64 46
 unfolding of_bits
 product y rate = refl
 
-nearest-i64-to-f64-requires : tie.Need-nearest-i64-to-f64-requires
+nearest-i64-to-f64-requires : tie.Need-nearest_i64_to_f64-requires
 nearest-i64-to-f64-requires c κs = search rules
 
-float-to-float-result : tie.Need-float-to-float-result
+float-to-float-result : tie.Need-float_to_float-result
 float-to-float-result c =
-    let s = c.before.before in
-    let x = s.args.frames-per-sec in
-    and_i (fits binary64 x) (not (is_nan x)) (fits_widens x c.row-known.given) (no_nan x s.requires)
+    let s = c in
+    let x = s.args.frames_per_sec in
+    and_i (fits binary64 x) (not (is_nan x)) (fits_widens x c.row_known-1.given) (no_nan x s.requires)
 
 returns : tie.Need-returns
 returns c =
-    let s = c.before.before in
-    let rate = s.args.frames-per-sec in
-    product c.before.nearest-i64-to-f64.result rate
+    let s = c in
+    let rate = s.args.frames_per_sec in
+    product c.nearest_i64_to_f64.result rate
     ∙ ap (λ (y : Float). div binary64 (mul binary64 y thousand) rate)
-    (c.before.nearest-i64-to-f64.ensures ∙ ap (λ (z : ℤ). of_int binary64 z) (to_z-of_z w64 s.args.frames s.ranges.frames))
+    (c.nearest_i64_to_f64.ensures ∙ ap (λ (z : ℤ). of_int binary64 z) (to_z-of_z w64 s.args.frames s.ranges.frames))
 
-pub milliseconds-spec : {M : Type 1} → statement M
-milliseconds-spec = tie.close (tie.spec nearest-i64-to-f64-requires float-to-float-result returns)
+pub milliseconds_spec : {M : Type 1} → statement M
+milliseconds_spec = tie.close (tie.spec nearest-i64-to-f64-requires float-to-float-result returns)

@@ -7,5 +7,5 @@ returns : tie.Need-returns
 unfolding of_bits
 returns c = refl
 
-pub no-match-spec : {M : Type 1} → statement M
-no-match-spec = tie.close (tie.spec returns)
+pub no_match_spec : {M : Type 1} → statement M
+no_match_spec = tie.close (tie.spec returns)

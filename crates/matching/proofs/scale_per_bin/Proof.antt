@@ -5,12 +5,12 @@ use Rattle.matching.specs.Scales.{per_bin}
 use Rattle.matching.proofs.scale_per_bin.Statement.{statement}
 use Rattle.matching.proofs.scale_per_bin.Tie as tie
 
-int-to-float-result : tie.Need-int-to-float-result
+int-to-float-result : tie.Need-int_to_float-result
 int-to-float-result c = search rules
 
 returns : tie.Need-returns
 unfolding per_bin of_bits
 returns c = refl
 
-pub scale-per-bin-spec : {M : Type 1} → statement M
-scale-per-bin-spec = tie.close (tie.spec int-to-float-result returns)
+pub scale_per_bin_spec : {M : Type 1} → statement M
+scale_per_bin_spec = tie.close (tie.spec int-to-float-result returns)

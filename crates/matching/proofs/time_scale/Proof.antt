@@ -7,33 +7,33 @@ use Rattle.matching.proofs.Scales.{small, at-half, at-two, within, between}
 use Rattle.matching.proofs.time_scale.Statement.{statement}
 use Rattle.matching.proofs.time_scale.Tie as tie
 
-abs-f64-requires : tie.Need-abs-f64-requires
+abs-f64-requires : tie.Need-abs_f64-requires
 abs-f64-requires c κs = search rules
 
-large : (c : tie.Then1) → lt tiny (abs c.before.before.args.c) ≡ true
-large c = sym (ap (λ (z : Float). lt tiny z) c.before.abs-f64.ensures) ∙ c.if1.true
+large : (c : tie.Then-abs_f64) → lt tiny (abs c.args.c) ≡ true
+large c = sym (ap (λ (z : Float). lt tiny z) c.abs_f64.ensures) ∙ c.if-abs_f64.true
 
-returns : tie.Need-returns
+returns : tie.Need-returns-then-s
 unfolding of_bits
-returns c = at-half c.before.before.before.args.c (large c.before) c.if2.true
+returns c = at-half c.args.c (large c.before) c.if-s.true
 
-returns-2 : tie.Need-returns-2
+returns-2 : tie.Need-returns-then-s-2
 unfolding of_bits
-returns-2 c = at-two c.before.before.before.before.args.c (large c.before.before) c.before.if2.false c.if3.true
+returns-2 c = at-two c.args.c (large c.before.before) c.if-s.false c.if-s-2.true
 
-f64-to-f32-requires : tie.Need-f64-to-f32-requires
+f64-to-f32-requires : tie.Need-f64_to_f32-requires
 unfolding of_bits
 f64-to-f32-requires c κs =
-    let w = within c.before.before.before.before.args.c (large c.before.before) c.before.if2.false c.if3.false in
+    let w = within c.args.c (large c.before.before) c.if-s.false c.if-s-2.false in
     (w.0, w.1)
 
-returns-3 : tie.Need-returns-3
+returns-3 : tie.Need-returns-then-abs_f64
 unfolding of_bits
-returns-3 c = let e = c.before in c.f64-to-f32.ensures ∙ between e.before.before.before.before.args.c (large e.before.before) e.before.if2.false e.if3.false
+returns-3 c = let e = c in c.f64_to_f32.ensures ∙ between e.args.c (large e.before.before.before) e.if-s.false e.if-s-2.false
 
-returns-4 : tie.Need-returns-4
+returns-4 : tie.Need-returns
 unfolding of_bits
-returns-4 c = small c.before.before.args.c (sym (ap (λ (z : Float). lt tiny z) c.before.abs-f64.ensures) ∙ c.if1.false)
+returns-4 c = small c.args.c (sym (ap (λ (z : Float). lt tiny z) c.abs_f64.ensures) ∙ c.if-abs_f64.false)
 
-pub time-scale-spec : {M : Type 1} → statement M
-time-scale-spec = tie.close (tie.spec abs-f64-requires returns returns-2 f64-to-f32-requires returns-3 returns-4)
+pub time_scale_spec : {M : Type 1} → statement M
+time_scale_spec = tie.close (tie.spec abs-f64-requires returns returns-2 f64-to-f32-requires returns-3 returns-4)

@@ -11,9 +11,9 @@ use borrow.Author.Rules.{rules}
 use Rattle.postings.proofs.kept_until.Statement.{statement}
 use Rattle.postings.proofs.kept_until.Tie as tie
 
-returns : tie.Need-returns
-returns c = let s = c.before.before.before in
-    let z : s.args.n ≡ 0 = c.if1.true in
+returns : tie.Need-returns-then-n-eq0
+returns c = let s = c in
+    let z : s.args.n ≡ 0 = c.if-n-eq0.true in
     record {
       since = s.requires.0.start;
       within = omega arith;
@@ -24,22 +24,22 @@ returns c = let s = c.before.before.before in
 at-requires : tie.Need-at-requires
 at-requires c κs = search rules
 
-until-word-requires : tie.Need-until-word-requires
+until-word-requires : tie.Need-until_word-requires
 until-word-requires c κs = search rules
 
-returns-2 : tie.Need-returns-2
-returns-2 c = let s = c.before.before.before.before.before.before in
-    let o : s.args.n ≡ 1 = c.before.before.if2.true in
-    rw o (until-same (λ x. member x (take 1 s.args.xs.now)) (eqb c.before.at.result) s.args.w s.args.p s.args.f s.args.posts.now s.args.from c.until-word.result
-    (λ x. member-one x s.args.xs.now (omega (arith, s.requires.1.room)) ∙ rw c.before.at.ensures) c.until-word.ensures)
+returns-2 : tie.Need-returns-then-n-eq1
+returns-2 c = let s = c in
+    let o : s.args.n ≡ 1 = c.if-n-eq1.true in
+    rw o (until-same (λ x. member x (take 1 s.args.xs.now)) (eqb c.at.result) s.args.w s.args.p s.args.f s.args.posts.now s.args.from c.until_word.result
+    (λ x. member-one x s.args.xs.now (omega (arith, s.requires.1.room)) ∙ rw c.at.ensures) c.until_word.ensures)
 
-until-among-requires : tie.Need-until-among-requires
+until-among-requires : tie.Need-until_among-requires
 until-among-requires c κs = search rules
 
-returns-3 : tie.Need-returns-3
+returns-3 : tie.Need-returns
 returns-3 c = search rules
 
-pub kept-until-spec : {M : Type 1} → statement M
-kept-until-spec =
+pub kept_until_spec : {M : Type 1} → statement M
+kept_until_spec =
     tie.close
     (tie.spec returns at-requires until-word-requires returns-2 until-among-requires returns-3)

@@ -11,18 +11,18 @@ at-requires c κs = search rules
 size-requires : tie.Need-size-requires
 size-requires c κs = search rules
 
-returns : tie.Need-returns
+returns : tie.Need-returns-then-k-c
 returns c =
-    let t = c.before.before in
-    let e = c.size.ensures ∙ c.before.at.ensures in
-    (rw e (t.before.before.before.before.requires.1.1.1 t.if1.true), λ h. e)
+    let t = c in
+    let e = c.size.ensures ∙ c.at.ensures in
+    (rw e (t.requires.1.1.1 t.if-k-c.true), λ h. e)
 
-kept-until-requires : tie.Need-kept-until-requires
+kept-until-requires : tie.Need-kept_until-requires
 kept-until-requires c κs = search rules
 
-returns-2 : tie.Need-returns-2
-returns-2 c = (c.kept-until.ensures, λ h. absurd (omega (arith, c.before.if1.false)))
+returns-2 : tie.Need-returns
+returns-2 c = (c.kept_until.ensures, λ h. absurd (omega (arith, c.if-k-c.false)))
 
-pub next-named-spec : {M : Type 1} → statement M
-next-named-spec =
+pub next_named_spec : {M : Type 1} → statement M
+next_named_spec =
     tie.close (tie.spec at-requires size-requires returns kept-until-requires returns-2)

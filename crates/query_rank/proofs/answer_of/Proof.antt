@@ -5,20 +5,20 @@ use borrow.Author.Rules.{rules}
 use Rattle.query_rank.proofs.answer_of.Statement.{statement}
 use Rattle.query_rank.proofs.answer_of.Tie as tie
 
-enum_told : tie.Need-enum-told
+enum_told : tie.Need-enum_told-1
 enum_told c = search rules
 
-enum-known-best : tie.Need-enum-known-best
+enum-known-best : tie.Need-enum_known-best
 enum-known-best c = search rules
 
-returns : tie.Need-returns
+returns : tie.Need-returns-in-Nothing
 returns c = search rules
 
-returns-2 : tie.Need-returns-2
+returns-2 : tie.Need-returns-in-Candidate
 returns-2 c =
-    let g = c.before.best.given in
-    let e : c.before.before.before.args.best ≡ Candidate g.0.0 g.0.1.0 = cc in
+    let g = c.best-1.given in
+    let e : c.args.best ≡ Candidate g.0.0 g.0.1.0 = cc in
     rw e
 
-pub answer-of-spec : {M : Type 1} → statement M
-answer-of-spec = tie.close (tie.spec enum_told enum-known-best returns returns-2)
+pub answer_of_spec : {M : Type 1} → statement M
+answer_of_spec = tie.close (tie.spec enum_told enum-known-best returns returns-2)

@@ -4,27 +4,27 @@ use borrow.Author.Rules.{rules}
 use Rattle.replay_text.proofs.are_pair.Statement.{statement}
 use Rattle.replay_text.proofs.are_pair.Tie as tie
 
-shared-slice-read-digit-of : tie.Need-shared-slice-read-digit-of
+shared-slice-read-digit-of : tie.Need-bounds-text-at
 shared-slice-read-digit-of c = search rules
 
-digit-of-requires : tie.Need-digit-of-requires
+digit-of-requires : tie.Need-digit_of-requires
 digit-of-requires c κs = search rules
 
-add-digit-of : tie.Need-overflow-add-digit-of
+add-digit-of : tie.Need-overflow_add-at
 add-digit-of c = search rules
 
-shared-slice-read-digit-of-2 : tie.Need-shared-slice-read-digit-of-2
+shared-slice-read-digit-of-2 : tie.Need-bounds-text-at-2
 shared-slice-read-digit-of-2 c = search rules
 
-digit-of-requires-2 : tie.Need-digit-of-requires-2
+digit-of-requires-2 : tie.Need-digit_of-requires-2
 digit-of-requires-2 c κs = search rules
 
 returns : tie.Need-returns
 unfolding are_pair
-returns c = rw (c.digit-of2.ensures.0, c.before.before.digit-of.ensures.0)
+returns c = rw (c.digit_of-2.ensures.0, c.digit_of.ensures.0)
 
-pub are-pair-spec : {M : Type 1} → statement M
-are-pair-spec =
+pub are_pair_spec : {M : Type 1} → statement M
+are_pair_spec =
     tie.close
     (tie.spec
     shared-slice-read-digit-of

@@ -12,39 +12,39 @@ use Rattle.replay_text.specs.Words.{padded_to}
 use Rattle.replay_text.proofs.put.Statement.{statement}
 use Rattle.replay_text.proofs.put.Tie as tie
 
-abbrev invariant-loop : tie.invariant-loop
+abbrev invariant-loop : tie.invariant-loop-i
 invariant-loop slice₀ words i₀ slice i = (length slice ≡ length slice₀) × (i ≤ length slice) × (take i slice ≡ padded_to i words)
 
-abbrev decreases-loop : tie.decreases-loop
+abbrev decreases-loop : tie.decreases-loop-i
 decreases-loop slice₀ words i₀ slice i = length slice₀ - i
 
-loop-holds : tie.Need-loop-init invariant-loop decreases-loop
+loop-holds : tie.Need-loop-i-init invariant-loop decreases-loop
 unfolding padded_to
 loop-holds c = (refl, omega arith, refl)
 
 padded-requires : tie.Need-padded-requires invariant-loop decreases-loop
 padded-requires c κs = search rules
 
-mul-slice : tie.Need-overflow-mul-slice invariant-loop decreases-loop
+mul-slice : tie.Need-offset_bounds-slice-i invariant-loop decreases-loop
 mul-slice c = search rules
 
-slice-write-slice : tie.Need-slice-write-slice invariant-loop decreases-loop
+slice-write-slice : tie.Need-bounds-slice-i invariant-loop decreases-loop
 slice-write-slice c = omega arith
 
-add-i : tie.Need-overflow-add-i invariant-loop decreases-loop
+add-i : tie.Need-overflow_add-i invariant-loop decreases-loop
 add-i c = omega arith
 
-loop-less : tie.Need-loop-smaller invariant-loop decreases-loop
+loop-less : tie.Need-loop-i-smaller invariant-loop decreases-loop
 loop-less c = omega arith
 
-loop-again : tie.Need-loop-preserved invariant-loop decreases-loop
-loop-again c = (search rules, simp length-set (omega arith), put-turn c.before.before.loop.slice c.before.before.before.before.before.args.words.now c.before.before.loop.i c.padded.result (omega arith) c.before.before.loop.invariant.2 c.padded.ensures)
+loop-again : tie.Need-loop-i-preserved invariant-loop decreases-loop
+loop-again c = (search rules, simp length-set (omega arith), put-turn c.loop-i.slice c.args.words.now c.loop-i.i c.padded.result (omega arith) c.loop-i.invariant.2 c.padded.ensures)
 
-same_length : tie.Need-same-length invariant-loop decreases-loop
+same_length : tie.Need-shape_of-slice invariant-loop decreases-loop
 same_length c = search rules
 
 returns : tie.Need-returns invariant-loop decreases-loop
-returns c = let l = c.before.loop in let a = c.before.before.before.before.args in put-end l.slice a.words.now l.i (omega arith) l.invariant.2 ∙ ap (λ (n : ℕ). padded_to n a.words.now) l.invariant.0
+returns c = let l = c.loop-i in let a = c.args in put-end l.slice a.words.now l.i (omega arith) l.invariant.2 ∙ ap (λ (n : ℕ). padded_to n a.words.now) l.invariant.0
 
 pub put_spec : {M : Type 1} → statement M
 put_spec =

@@ -5,22 +5,22 @@ use borrow.Author.Rules.{rules}
 use Rattle.sheet_text.proofs.put_short.Statement.{statement}
 use Rattle.sheet_text.proofs.put_short.Tie as tie
 
-put-byte-requires : tie.Need-put-byte-requires
+put-byte-requires : tie.Need-put_byte-start-requires
 put-byte-requires c κs = search rules
 
-put-number-requires : tie.Need-put-number-requires
+put-number-requires : tie.Need-put_number-end-requires
 put-number-requires c κs = search rules
 
-put-byte-requires-2 : tie.Need-put-byte-requires-2
+put-byte-requires-2 : tie.Need-put_byte-requires
 put-byte-requires-2 c κs = search rules
 
-same_length : tie.Need-same-length
+same_length : tie.Need-shape_of-line
 same_length c = search rules
 
 returns : tie.Need-returns
-returns c = let p = c.before.before.before.before.before.before.before.before.before.before.put_byte.ensures in let q = c.before.before.before.before.before.before.put-number.ensures in let r = c.before.before.put-byte2.ensures in (join (join p q.0) r, omega (arith, p.ends, q.1, r.ends))
+returns c = let p = c.put_byte-start.ensures in let q = c.put_number-end.ensures in let r = c.put_byte.ensures in (join (join p q.0) r, omega (arith, p.ends, q.1, r.ends))
 
-pub put-short-spec : {M : Type 1} → statement M
-put-short-spec =
+pub put_short_spec : {M : Type 1} → statement M
+put_short_spec =
     tie.close
     (tie.spec put-byte-requires put-number-requires put-byte-requires-2 same_length returns)

@@ -159,7 +159,7 @@ room-add-merge-2 t c = search rules
 room-merge-requires : (t : ℕ) → room-lts.Need-merge-requires (room-claims t) (room_at t) room.Post
 room-merge-requires t c κs =
     let o = c.before.before.before.before.before.before.before.args in
-    let one = c.before.before.before.before.before.sort-in-place in
+    let one = c.before.before.before.before.before.sort_in_place in
     let two = c.before.before.sort-in-place2 in
     let m = o.lo + (o.hi - o.lo) / 2 in
     let s = halves-sorted o.w.now one.new.0 two.new.0 o.n o.lo m o.hi o.lo m o.hi one.auto.0 two.auto.0
@@ -172,7 +172,7 @@ room-same-length t c = c.before.merge.auto.0 ∙ c.before.before.before.before.s
 room-returns : (t : ℕ) → room-lts.Need-returns (room-claims t) (room_at t) room.Post
 room-returns t c =
     let o = c.before.before.before.before.before.before.before.before.before.args in
-    let one = c.before.before.before.before.before.before.before.sort-in-place in
+    let one = c.before.before.before.before.before.before.before.sort_in_place in
     let two = c.before.before.before.before.sort-in-place2 in
     let m = o.lo + (o.hi - o.lo) / 2 in
     room-done o.w.now one.new.0 two.new.0 c.before.merge.new.0 o.n o.lo m o.hi one.auto.0 two.auto.0

@@ -8,49 +8,49 @@ use Rattle.matching.proofs.Offsets.{both, rounded, at-rate, tried, tried-no-rate
 use Rattle.matching.proofs.TimeOffset.try_from_frames.Statement.{statement}
 use Rattle.matching.proofs.TimeOffset.try_from_frames.Tie as tie
 
-is-rate-requires : tie.Need-is-rate-requires
+is-rate-requires : tie.Need-is_rate-requires
 is-rate-requires c κs = search rules
 
-returns : tie.Need-returns
-returns c = let s = c.before.before in tried-no-rate s.args.frames s.args.frames-per-sec (sym c.before.is-rate.ensures ∙ not-true _ c.if1.true)
+returns : tie.Need-returns-then-not-is_rate
+returns c = let s = c in tried-no-rate s.args.frames s.args.frames_per_sec (sym c.is_rate.ensures ∙ c.if-not-is_rate.true)
 
-rate-is : (c : tie.Else1) → positive c.before.before.args.frames-per-sec ≡ true
-rate-is c = sym c.before.is-rate.ensures ∙ not-false _ c.if1.false
+rate-is : (c : tie.Else-not-is_rate) → positive c.args.frames_per_sec ≡ true
+rate-is c = sym c.is_rate.ensures ∙ c.if-not-is_rate.false
 
-milliseconds-requires : tie.Need-milliseconds-requires
+milliseconds-requires : tie.Need-milliseconds-ms-requires
 milliseconds-requires c κs = rate-is c
 
-is-i64-requires : tie.Need-is-i64-requires
+is-i64-requires : tie.Need-is_i64-requires
 is-i64-requires c κs = search rules
 
 -- the frames as they were handed on
-told : (c : tie.After-milliseconds) → c.milliseconds.result ≡ unrounded c.before.before.before.args.frames c.before.before.before.args.frames-per-sec
-told c = let s = c.before.before.before in c.milliseconds.ensures ∙ ap (λ z. unrounded z s.args.frames-per-sec) (to_z-of_z w64 s.args.frames s.ranges.frames)
+told : (c : tie.After-milliseconds-ms) → c.milliseconds-ms.result ≡ unrounded c.args.frames c.args.frames_per_sec
+told c = let s = c in c.milliseconds-ms.ensures ∙ ap (λ z. unrounded z s.args.frames_per_sec) (to_z-of_z w64 s.args.frames s.ranges.frames)
 
-returns-2 : tie.Need-returns-2
+returns-2 : tie.Need-returns-then-not-is_i64
 returns-2 c =
     let m = c.before.before in
-    let s = m.before.before.before in
-    tried-beyond s.args.frames s.args.frames-per-sec (rate-is m.before) (sym (ap in_i64 (told m)) ∙ sym c.before.is-i64.ensures ∙ not-true _ c.if2.true)
+    let s = m in
+    tried-beyond s.args.frames s.args.frames_per_sec (rate-is m.before) (sym (ap in_i64 (told m)) ∙ sym c.is_i64.ensures ∙ c.if-not-is_i64.true)
 
-round-to-i64-requires : tie.Need-round-to-i64-requires
+round-to-i64-requires : tie.Need-round_to_i64-requires
 round-to-i64-requires c κs = search rules
 
-returns-3 : tie.Need-returns-3
+returns-3 : tie.Need-returns
 returns-3 c =
-    let t = c.before in
+    let t = c in
     let m = t.before.before in
-    let s = m.before.before.before in
+    let s = m in
     let frames = to_z-of_z w64 s.args.frames s.ranges.frames in
-    let fit = sym (ap in_i64 (told m)) ∙ sym t.before.is-i64.ensures ∙ not-false _ t.if2.false in
-    tried s.args.frames s.args.frames-per-sec _ (rate-is m.before) fit
+    let fit = sym (ap in_i64 (told m.before)) ∙ sym t.is_i64.ensures ∙ t.if-not-is_i64.false in
+    tried s.args.frames s.args.frames_per_sec _ (rate-is m.before.before) fit
     (both _ _ _ _ frames
-    (to_z-of_z w64 c.round-to-i64.result (record { sfits = c.round-to-i64.type-inv })
-    ∙ rounded s.args.frames-per-sec frames c.round-to-i64.ensures m.milliseconds.ensures
-    ∙ at-rate s.args.frames s.args.frames-per-sec (rate-is m.before)))
+    (to_z-of_z w64 c.round_to_i64.result (record { sfits = c.round_to_i64.type_inv })
+    ∙ rounded s.args.frames_per_sec frames c.round_to_i64.ensures m.milliseconds-ms.ensures
+    ∙ at-rate s.args.frames s.args.frames_per_sec (rate-is m.before.before)))
 
-pub try-from-frames-spec : {M : Type 1} → statement M
-try-from-frames-spec =
+pub try_from_frames_spec : {M : Type 1} → statement M
+try_from_frames_spec =
     tie.close
     (tie.spec
     is-rate-requires

@@ -4,65 +4,65 @@ use borrow.Author.Rules.{rules}
 use Rattle.sheet_text.proofs.fields.word_at.Statement.{statement}
 use Rattle.sheet_text.proofs.fields.word_at.Tie as tie
 
-shared-slice-read-wide-byte : tie.Need-shared-slice-read-wide-byte
+shared-slice-read-wide-byte : tie.Need-bounds-s-at
 shared-slice-read-wide-byte c = search rules
 
-wide-byte-requires : tie.Need-wide-byte-requires
+wide-byte-requires : tie.Need-wide_byte-requires
 wide-byte-requires c κs = search rules
 
-mul-high : tie.Need-overflow-mul-high
+mul-high : tie.Need-overflow_mul-high
 mul-high c = search rules
 
-add-wide-byte : tie.Need-overflow-add-wide-byte
+add-wide-byte : tie.Need-overflow_add-at
 add-wide-byte c = search rules
 
-shared-slice-read-wide-byte-2 : tie.Need-shared-slice-read-wide-byte-2
+shared-slice-read-wide-byte-2 : tie.Need-bounds-s-at-2
 shared-slice-read-wide-byte-2 c = search rules
 
-wide-byte-requires-2 : tie.Need-wide-byte-requires-2
+wide-byte-requires-2 : tie.Need-wide_byte-requires-2
 wide-byte-requires-2 c κs = search rules
 
-mul-high-2 : tie.Need-overflow-mul-high-2
+mul-high-2 : tie.Need-overflow_mul-high-2
 mul-high-2 c = search rules
 
-add-high : tie.Need-overflow-add-high
+add-high : tie.Need-overflow_add-high
 add-high c = search rules
 
-add-wide-byte-2 : tie.Need-overflow-add-wide-byte-2
+add-wide-byte-2 : tie.Need-overflow_add-at-2
 add-wide-byte-2 c = search rules
 
-shared-slice-read-wide-byte-3 : tie.Need-shared-slice-read-wide-byte-3
+shared-slice-read-wide-byte-3 : tie.Need-bounds-s-at-3
 shared-slice-read-wide-byte-3 c = search rules
 
-wide-byte-requires-3 : tie.Need-wide-byte-requires-3
+wide-byte-requires-3 : tie.Need-wide_byte-requires-3
 wide-byte-requires-3 c κs = search rules
 
-mul_low : tie.Need-overflow-mul-low
+mul_low : tie.Need-overflow_mul-low
 mul_low c = search rules
 
-add-wide-byte-3 : tie.Need-overflow-add-wide-byte-3
+add-wide-byte-3 : tie.Need-overflow_add-at-3
 add-wide-byte-3 c = search rules
 
-shared-slice-read-wide-byte-4 : tie.Need-shared-slice-read-wide-byte-4
+shared-slice-read-wide-byte-4 : tie.Need-bounds-s-at-4
 shared-slice-read-wide-byte-4 c = search rules
 
-wide-byte-requires-4 : tie.Need-wide-byte-requires-4
+wide-byte-requires-4 : tie.Need-wide_byte-requires-4
 wide-byte-requires-4 c κs = search rules
 
-add_low : tie.Need-overflow-add-low
+add_low : tie.Need-overflow_add-low
 add_low c = search rules
 
-add-result : tie.Need-overflow-add-result
+add-result : tie.Need-overflow_add-result
 add-result c = search rules
 
-cast-result : tie.Need-overflow-cast-result
+cast-result : tie.Need-overflow_cast-result
 cast-result c = search rules
 
 returns : tie.Need-returns
-returns c = word-is c.before.before.before.before.before.before.before.before.before.args.s.now c.before.before.before.before.before.before.before.before.before.args.at _ _ _ _ c.before.before.before.before.before.before.wide-byte.ensures.0 c.before.before.before.before.wide-byte2.ensures.0 c.before.before.wide-byte3.ensures.0 c.wide-byte4.ensures.0
+returns c = word-is c.args.s.now c.args.at _ _ _ _ c.wide_byte.ensures.0 c.wide_byte-2.ensures.0 c.wide_byte-3.ensures.0 c.wide_byte-4.ensures.0
 
-pub word-at-spec : {M : Type 1} → statement M
-word-at-spec =
+pub word_at_spec : {M : Type 1} → statement M
+word_at_spec =
     tie.close
     (tie.spec
     shared-slice-read-wide-byte
