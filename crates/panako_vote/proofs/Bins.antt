@@ -22,16 +22,22 @@ whole_is t few = whole-value binary64 t (in-format t few)
 
 is_number : (y : Float) (t : ℕ) → HasValue y false t 1 → is_nan y ≡ false
 unfolding is_nan
+is_number nan t v = elim v [ ]
+is_number (inf _) t v = elim v [ ]
 is_number (fin s m e) t v = refl
 
 not_negative : (y : Float) (t : ℕ) → HasValue y false t 1 → lt y zero ≡ false
 unfolding lt
+not_negative nan t v = elim v [ ]
+not_negative (inf _) t v = elim v [ ]
 not_negative (fin true m e) t v = absurd (true≢false v.0)
 not_negative (fin false m e) t v = le-ltb (m * up e * 1) (0 * 1 * down e) (le_trans (le_of_eq (zero-mul (down e))) zero-le)
 
 -- above 0 and not above t
 under : (y x : Float) (t : ℕ) → HasValue y false t 1 → lt zero x ≡ true → lt y x ≡ false → T (positive x) × (num x ≤ t * den x)
 unfolding lt
+under nan x t v g h = elim v [ ]
+under (inf _) x t v g h = elim v [ ]
 under (fin true m e) x t v g h = absurd (true≢false v.0)
 under (fin false m e) nan t v g h = absurd (false≢true g)
 under (fin false m e) (inf true) t v g h = absurd (false≢true g)
@@ -82,6 +88,9 @@ held-zero t = record { low = tt; high = tt; most = zero-le; same = refl }
 
 held-positive : (t : ℕ) (y : Float) → t < 2 ^ 32 → lt zero y ≡ true → T (positive y) → num y ≤ t * den y → Held t y
 unfolding le lt to_unsigned
+held-positive t nan few g p h = elim p [ ]
+held-positive t (inf _) few g p h = elim p [ ]
+held-positive t (fin true m e) few g p h = elim p [ ]
 held-positive t (fin false m e) few g p h =
     let q = div-le_of_le-mul (down e) (le_trans h (le_of_eq (mul_comm t (down e)))) in
     record {

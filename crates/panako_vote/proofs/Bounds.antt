@@ -30,6 +30,10 @@ past K x y p q Q h g = le_trans (le_of_eq (sym (mul-one x))) (through x y K p q 
 not-above : (j k : ℕ) (y x : Float) → T (le y (fin false 1 (pos k))) → Sized false j x → lt y x ≡ false → Sized false k x
 unfolding lt le
 not-above j k nan x t h g = absurd t
+not-above j k (inf true) nan t h g = elim h [ ]
+not-above j k (inf true) (inf _) t h g = elim h [ ]
+not-above j k (fin s n d) nan t h g = elim h [ ]
+not-above j k (fin s n d) (inf _) t h g = elim h [ ]
 not-above j k (inf true) (fin s m e) t h g = absurd (true≢false g)
 not-above j k (inf false) x t h g = absurd t
 not-above j k (fin s n d) (fin true m e) t h g = absurd (true≢false h.0)
@@ -55,6 +59,8 @@ negated (suc n) h = h
 
 rounded : (x : Float) → (s : Bool) × Sized s (cond s 39 32) x → InRange (round_to_i64 x)
 unfolding round_to_i64
+rounded nan (s, h) = elim h [ ]
+rounded (inf _) (s, h) = elim h [ ]
 rounded (fin true m e) (false, h) = absurd (true≢false h.0)
 rounded (fin false m e) (true, h) = absurd (true≢false (sym h.0))
 rounded (fin true m e) (true, h) = negated (min (half_up (m * up e) (down e)) (2 ^ 63)) (le_trans (min-le_left (half_up (m * up e) (down e)) (2 ^ 63)) (half-up-le (m * up e) (down e) (2 ^ 39) (down_pos e) h.1))
@@ -77,6 +83,8 @@ Inside x = T (lt (fin true 1 (pos 51)) x) × T (lt x (fin false 1 (pos 51)))
 
 inside : (x : Float) → (s : Bool) × Sized s (cond s 39 32) x → Inside x
 unfolding lt
+inside nan (s, h) = elim h [ ]
+inside (inf _) (s, h) = elim h [ ]
 inside (fin true m e) (false, h) = absurd (true≢false h.0)
 inside (fin false m e) (true, h) = absurd (true≢false (sym h.0))
 inside (fin true m e) (true, h) = (

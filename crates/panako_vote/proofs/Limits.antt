@@ -37,6 +37,8 @@ abs-small (fin s m e) t = at_most 6 m e t
 
 small-le : (k : ℕ) (x : Float) → Small k x → T (le x (fin false 1 (pos k)))
 unfolding is_nan lt
+small-le k nan h = elim h [ ]
+small-le k (inf _) h = elim h [ ]
 small-le k (fin s m e) h = yes (le_of_not_lt (fin false 1 (pos k)) (fin s m e) tt tt (not-above s))
   where
     not-above : (s : Bool) → lt (fin false 1 (pos k)) (fin s m e) ≡ false

@@ -26,6 +26,8 @@ Small k (inf t) = ⊥
 Small k (fin t m e) = m * up e ≤ 2 ^ k * down e
 
 small : (s : Bool) (k : ℕ) (x : Float) → Sized s k x → Small k x
+small s k nan h = elim h [ ]
+small s k (inf _) h = elim h [ ]
 small s k (fin t m e) h = h.1
 
 -- ---- rounding
@@ -83,6 +85,8 @@ module _ (f : Format) (a c k : ℕ) (C : 0 < c) (K : k < emax f) (h : a ≤ 2 ^ 
   sized-round s = of-value (round f s a c) (value s)
     where
       of-value : (x : Float) → HasValue x s (grid f a c) (2 ^ low f) → Sized s k x
+      of-value nan v = elim v [ ]
+      of-value (inf _) v = elim v [ ]
       of-value (fin t m e) v = (
         v.0,
         le_of_mul-le-mul_right
@@ -94,12 +98,16 @@ module _ (f : Format) (a c k : ℕ) (C : 0 < c) (K : k < emax f) (h : a ≤ 2 ^ 
   small-round s = small s k (round f s a c) (sized-round s)
 
 pub sized-of-value : (k : ℕ) (x : Float) (n : ℕ) → HasValue x false n 1 → n ≤ 2 ^ k → Sized false k x
+sized-of-value k nan n v h = elim v [ ]
+sized-of-value k (inf _) n v h = elim v [ ]
 sized-of-value k (fin t m e) n v h = (v.0, le_trans (le_of_eq (sym (mul-one (m * up e)) ∙ v.1)) (mul-le-mul_right (down e) h))
 
 -- ---- sums
 
 small-neg : (k : ℕ) (x : Float) → Small k x → Small k (neg x)
 unfolding neg
+small-neg k nan h = elim h [ ]
+small-neg k (inf _) h = elim h [ ]
 small-neg k (fin t m e) h = h
 
 -- two fractions over one denominator
@@ -129,6 +137,10 @@ small-sum f s t a b c k C K A B = go (beq s t) (ltb a b)
 
 pub small-add : (f : Format) (k : ℕ) (x y : Float) → suc k < emax f → Small k x → Small k y → Small (suc k) (add f x y)
 unfolding add
+small-add f k nan y K A B = elim A [ ]
+small-add f k (inf _) y K A B = elim A [ ]
+small-add f k (fin s m e) nan K A B = elim B [ ]
+small-add f k (fin s m e) (inf _) K A B = elim B [ ]
 small-add f k (fin s m e) (fin t n d) K A B =
     small-sum f s t (m * up e * down d) (n * up d * down e) (down e * down d) k (mul-pos (down_pos e) (down_pos d)) K
     (left (2 ^ k) (m * up e) (down e) (down d) A) (right (2 ^ k) (n * up d) (down e) (down d) B)
@@ -140,6 +152,10 @@ small-sub f k x y K A B = small-add f k x (neg y) K A (small-neg k y B)
 -- the difference of two that aren't negative lies between what they are at most
 pub sized-sub : (f : Format) (j k : ℕ) (x y : Float) → j < emax f → k < emax f → Sized false j x → Sized false k y → (s : Bool) × Sized s (cond s k j) (sub f x y)
 unfolding sub add neg sum
+sized-sub f j k nan y J K A B = elim A [ ]
+sized-sub f j k (inf _) y J K A B = elim A [ ]
+sized-sub f j k (fin false m e) nan J K A B = elim B [ ]
+sized-sub f j k (fin false m e) (inf _) J K A B = elim B [ ]
 sized-sub f j k (fin true m e) y J K A B = absurd (true≢false A.0)
 sized-sub f j k (fin false m e) (fin true n d) J K A B = absurd (true≢false B.0)
 sized-sub f j k (fin false m e) (fin false n d) J K A B = go (ltb (m * up e * down d) (n * up d * down e))
@@ -165,6 +181,10 @@ unlike-false false = refl
 
 pub sized-mul : (f : Format) (j k : ℕ) (s t : Bool) (x y : Float) → j + k < emax f → Sized s j x → Sized t k y → Sized (unlike s t) (j + k) (mul f x y)
 unfolding mul
+sized-mul f j k s t nan y K A B = elim A [ ]
+sized-mul f j k s t (inf _) y K A B = elim A [ ]
+sized-mul f j k s t (fin u m e) nan K A B = elim B [ ]
+sized-mul f j k s t (fin u m e) (inf _) K A B = elim B [ ]
 sized-mul f j k s t (fin u m e) (fin v n d) K A B =
     subst (λ (w : Bool). Sized w (j + k) (round f (unlike u v) (m * up e * (n * up d)) (down e * down d))) (λ i. unlike (A.0 i) (B.0 i))
     (sized-round f (m * up e * (n * up d)) (down e * down d) (j + k) (mul-pos (down_pos e) (down_pos d)) K
@@ -173,6 +193,8 @@ sized-mul f j k s t (fin u m e) (fin v n d) K A B =
 
 pub small-half : (f : Format) (k : ℕ) (x : Float) → k < emax f → Small (suc k) x → Small k (mul f x half)
 unfolding mul
+small-half f k nan K h = elim h [ ]
+small-half f k (inf _) K h = elim h [ ]
 small-half f k (fin s m e) K h =
     small-round f (m * up e * (1 * 1)) (down e * 2) k (mul-pos (down_pos e) (zero-lt-suc 1)) K
     (le_trans (le_of_eq (mul-one (m * up e))) (le_trans h (le_of_eq (ap (λ (z : ℕ). z * down e) (pow-suc 2 k) ∙ mul_assoc (2 ^ k) 2 (down e) ∙ ap (λ (z : ℕ). 2 ^ k * z) (mul_comm 2 (down e))))))
@@ -193,6 +215,10 @@ not-zero p h e = omega arith
 
 pub sized-div : (f : Format) (k : ℕ) (s : Bool) (x y : Float) (n : ℕ) → k < emax f → Sized s k x → HasValue y false n 1 → 0 < n → Sized s k (div f x y)
 unfolding div
+sized-div f k s nan y n K h v N = elim h [ ]
+sized-div f k s (inf _) y n K h v N = elim h [ ]
+sized-div f k s (fin t m e) nan n K h v N = elim v [ ]
+sized-div f k s (fin t m e) (inf _) n K h v N = elim v [ ]
 sized-div f k s (fin t m e) (fin true p d) n K h v N = absurd (true≢false v.0)
 sized-div f k s (fin t m e) (fin false p d) n K h v N =
     let P = some p d n v.1 N in
@@ -201,4 +227,6 @@ sized-div f k s (fin t m e) (fin false p d) n K h v N =
     (sized-round f (m * up e * down d) (p * up d * down e) k (mul-pos (mul-pos P (up_pos d)) (down_pos e)) K (over (2 ^ k) (m * up e) (down e) (p * up d) (down d) n h.1 v.1 N) (unlike t false)))
 
 pub small-div : (f : Format) (k : ℕ) (x y : Float) (n : ℕ) → k < emax f → Small k x → HasValue y false n 1 → 0 < n → Small k (div f x y)
+small-div f k nan y n K h v N = elim h [ ]
+small-div f k (inf _) y n K h v N = elim h [ ]
 small-div f k (fin t m e) y n K h v N = small t k (div f (fin t m e) y) (sized-div f k t (fin t m e) y n K (refl, h) v N)

@@ -28,6 +28,9 @@ one-is = refl
 -- x / x is 1
 over-itself : (x : Float) → T (positive x) → div binary64 x x ≡ one
 unfolding div
+over-itself lib.Ieee.nan p = elim p [ ]
+over-itself (lib.Ieee.inf _) p = elim p [ ]
+over-itself (fin true m e) p = elim p [ ]
 over-itself (fin false m e) p =
     let M = ltb→lt 0 m p in
     rw (ne_eqb m 0 (not-zero m M))
@@ -41,6 +44,8 @@ scale-is n p h = over-itself (whole n) (positive_of_value (whole n) n 1 (whole_i
 -- 1 * n is n
 times-one : (x : Float) (n : ℕ) → HasValue x false n 1 → mul binary64 one x ≡ whole n
 unfolding mul of_int
+times-one lib.Ieee.nan n v = elim v [ ]
+times-one (lib.Ieee.inf _) n v = elim v [ ]
 times-one (fin true m e) n v = absurd (true≢false v.0)
 times-one (fin false m e) n v =
     round_same binary64 false (1 * 1 * (m * up e)) (1 * down e) n 1 (mul-pos (zero-lt-suc 0) (down_pos e)) (zero-lt-suc 0) (tidy (m * up e) n (down e) v.1)
@@ -64,6 +69,10 @@ half-whole a d n D h = div_same (2 * a + d) (2 * d) (2 * n + 1) 2 (twice d D) (z
 rounded : (s : Bool) (x : Float) (n : ℕ) → HasValue x s n 1 → n < 2 ^ 32 → round_to_i64 x ≡ cond s (neg_ℤ (pos n)) (pos n)
 unfolding round_to_i64
 rounded true (fin false m e) n v h = absurd (true≢false (sym v.0))
+rounded false lib.Ieee.nan n v h = elim v [ ]
+rounded false (lib.Ieee.inf _) n v h = elim v [ ]
+rounded true lib.Ieee.nan n v h = elim v [ ]
+rounded true (lib.Ieee.inf _) n v h = elim v [ ]
 rounded false (fin true m e) n v h = absurd (true≢false v.0)
 rounded true (fin true m e) n v h = ap (λ (k : ℕ). neg_ℤ (pos k)) (ap (λ (k : ℕ). min k (2 ^ 63)) (half-whole (m * up e) (down e) n (down_pos e) v.1) ∙ held n h)
   where

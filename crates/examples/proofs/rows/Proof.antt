@@ -7,5 +7,5 @@ use Rattle.examples.proofs.rows.Tie as tie
 returns : tie.Need-returns
 returns c = (refl, all_right)
 
-pub rows-spec : {M : Type 1} → statement M
-rows-spec = tie.close (tie.spec returns)
+pub rows_spec : {M : Type 1} → statement M
+rows_spec = tie.close (tie.spec returns)

@@ -6,18 +6,18 @@ use borrow.Author.Rules.{rules}
 use Rattle.gates.proofs.result.Statement.{statement}
 use Rattle.gates.proofs.result.Tie as tie
 
-from-frames-requires : tie.Need-from-frames-requires
+from-frames-requires : tie.Need-from_frames-offset-requires
 from-frames-requires c κs = search rules
 
-cast-t8 : tie.Need-overflow-cast-t8
+cast-t8 : tie.Need-overflow_cast-result
 cast-t8 c = search rules
 
 returns : tie.Need-returns
 unfolding result_at
 returns c =
-    let o = c.before in
-    let e = rw (word-is o.args.frames o.ranges.frames) at c.from-frames.ensures in
+    let o = c in
+    let e = rw (word-is o.args.frames o.ranges.frames) at c.from_frames-offset.ensures in
     rw e refl
 
-pub result-spec : {M : Type 1} → statement M
-result-spec = tie.close (tie.spec from-frames-requires cast-t8 returns)
+pub result_spec : {M : Type 1} → statement M
+result_spec = tie.close (tie.spec from-frames-requires cast-t8 returns)

@@ -21,22 +21,22 @@ sum_is (negsuc n) v t h = absurd t
 abbrev summed : (o : tie.Start) → let z = get_or o.args.s.now o.args.at (pos 0) in SFits w64 (word z +ℤ to_z w64 o.args.v) × (word (word z +ℤ to_z w64 o.args.v) ≡ pos (nat_of z + o.args.v))
 summed o = sum_is (get_or o.args.s.now o.args.at (pos 0)) o.args.v o.requires.1 o.requires.2
 
-cast-more : tie.Need-overflow-cast-more
+cast-more : tie.Need-overflow_cast-more
 cast-more c = search rules
 
-mul-s : tie.Need-overflow-mul-s
+mul-s : tie.Need-offset_bounds-s-at
 mul-s c = search rules
 
-slice-copy-out-s : tie.Need-slice-copy-out-s
+slice-copy-out-s : tie.Need-slice_copy_out-s
 slice-copy-out-s c = search rules
 
-add-s : tie.Need-overflow-add-s
+add-s : tie.Need-overflow_add-s
 add-s c = (summed c.before).0
 
-slice-set-from-s : tie.Need-slice-set-from-s
+slice-set-from-s : tie.Need-bounds-s-at
 slice-set-from-s c = search rules
 
-same_length : tie.Need-same-length
+same_length : tie.Need-shape_of-s
 same_length c = search rules
 
 returns : tie.Need-returns

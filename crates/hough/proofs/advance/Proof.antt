@@ -8,47 +8,47 @@ use Rattle.hough.proofs.Places.{keys-up}
 use Rattle.hough.proofs.advance.Statement.{statement}
 use Rattle.hough.proofs.advance.Tie as tie
 
-abbrev invariant-loop : tie.invariant-loop
+abbrev invariant-loop : tie.invariant-loop-i
 invariant-loop s n from below i₀ sum₀ i sum = Passing (key s) (votes s) n from below i sum
 
-abbrev decreases-loop : tie.decreases-loop
+abbrev decreases-loop : tie.decreases-loop-i
 decreases-loop s n from below i₀ sum₀ i sum = n - i
 
-loop-holds : tie.Need-loop-init invariant-loop decreases-loop
+loop-holds : tie.Need-loop-i-init invariant-loop decreases-loop
 loop-holds c = passing-none _ _ _ _ _ c.requires.1
 
-key-at-requires : tie.Need-key-at-requires invariant-loop decreases-loop
+key-at-requires : tie.Need-key_at-requires invariant-loop decreases-loop
 key-at-requires c κs = search rules
 
-returns : tie.Need-returns invariant-loop decreases-loop
+returns : tie.Need-returns-then-key_at-below invariant-loop decreases-loop
 returns c =
-    let h = c.before.before.before in
-    passed h.loop.invariant (keys-up _ _ h.before.requires.0) (λ u. omega (arith, c.before.key-at.ensures.0, c.if1.true))
+    let h = c in
+    passed h.loop-i.invariant (keys-up _ _ h.requires.0) (λ u. omega (arith, c.key_at.ensures.0, c.if-key_at-below.true))
 
-votes-at-requires : tie.Need-votes-at-requires invariant-loop decreases-loop
+votes-at-requires : tie.Need-votes_at-sum-requires invariant-loop decreases-loop
 votes-at-requires c κs = search rules
 
-add-sum : tie.Need-overflow-add-sum invariant-loop decreases-loop
+add-sum : tie.Need-overflow_add-sum invariant-loop decreases-loop
 add-sum c =
-    let h = c.before.before.before.before in
-    omega (arith, passing-fits h.loop.invariant h.before.requires.0.sum c.before.before.before.loop-test.true, c.votes-at.ensures)
+    let h = c in
+    omega (arith, passing-fits h.loop-i.invariant h.requires.0.sum c.loop-i-test.true, c.votes_at-sum.ensures)
 
-add-i : tie.Need-overflow-add-i invariant-loop decreases-loop
+add-i : tie.Need-overflow_add-i invariant-loop decreases-loop
 add-i c = search rules
 
-loop-less : tie.Need-loop-smaller invariant-loop decreases-loop
+loop-less : tie.Need-loop-i-smaller invariant-loop decreases-loop
 loop-less c = search rules
 
-loop-again : tie.Need-loop-preserved invariant-loop decreases-loop
+loop-again : tie.Need-loop-i-preserved invariant-loop decreases-loop
 loop-again c =
-    let l = c.before.before.before in
-    rw c.votes-at.ensures (passing-more l.before.loop.invariant l.loop-test.true (omega (arith, c.before.before.key-at.ensures.0, c.before.if1.false)))
+    let l = c in
+    rw c.votes_at-sum.ensures (passing-more l.loop-i.invariant l.loop-i-test.true (omega (arith, c.key_at.ensures.0, c.if-key_at-below.false)))
 
-returns-2 : tie.Need-returns-2 invariant-loop decreases-loop
-returns-2 c = passed c.before.loop.invariant (keys-up _ _ c.before.before.requires.0) (λ u. omega arith)
+returns-2 : tie.Need-returns invariant-loop decreases-loop
+returns-2 c = passed c.loop-i.invariant (keys-up _ _ c.requires.0) (λ u. omega arith)
 
-pub advance-spec : {M : Type 1} → statement M
-advance-spec =
+pub advance_spec : {M : Type 1} → statement M
+advance_spec =
     tie.close
     (tie.spec
     invariant-loop

@@ -9,40 +9,40 @@ use Rattle.hough.specs.Limits.{bin_ok}
 use Rattle.hough.proofs.all_bins_ok.Statement.{statement}
 use Rattle.hough.proofs.all_bins_ok.Tie as tie
 
-abbrev invariant-loop : tie.invariant-loop
+abbrev invariant-loop : tie.invariant-loop-i
 invariant-loop s n i₀ i = (i ≤ n) × (every i (bin_ok s n) ≡ true)
 
-abbrev decreases-loop : tie.decreases-loop
+abbrev decreases-loop : tie.decreases-loop-i
 decreases-loop s n i₀ i = n - i
 
-loop-holds : tie.Need-loop-init invariant-loop decreases-loop
+loop-holds : tie.Need-loop-i-init invariant-loop decreases-loop
 loop-holds c = (omega arith, every-none _)
 
-bin-ok-requires : tie.Need-bin-ok-requires invariant-loop decreases-loop
+bin-ok-requires : tie.Need-bin_ok-requires invariant-loop decreases-loop
 bin-ok-requires c κs = (omega arith, omega arith)
 
-returns : tie.Need-returns invariant-loop decreases-loop
+returns : tie.Need-returns-then-not-bin_ok invariant-loop decreases-loop
 returns c =
-    let h = c.before.before.before in
-    sym (every-fail _ _ h.loop.i (omega arith) (sym c.before.bin-ok.ensures ∙ not-true _ c.if1.true))
+    let h = c in
+    sym (every-fail _ _ h.loop-i.i (omega arith) (sym c.bin_ok.ensures ∙ c.if-not-bin_ok.true))
 
-add-i : tie.Need-overflow-add-i invariant-loop decreases-loop
+add-i : tie.Need-overflow_add-i invariant-loop decreases-loop
 add-i c = omega arith
 
-loop-less : tie.Need-loop-smaller invariant-loop decreases-loop
+loop-less : tie.Need-loop-i-smaller invariant-loop decreases-loop
 loop-less c = omega arith
 
-loop-again : tie.Need-loop-preserved invariant-loop decreases-loop
-loop-again c = (omega arith, every_more _ _ c.before.before.before.loop.invariant.1 (sym c.before.bin-ok.ensures ∙ not-false _ c.if1.false))
+loop-again : tie.Need-loop-i-preserved invariant-loop decreases-loop
+loop-again c = (omega arith, every_more _ _ c.loop-i.invariant.1 (sym c.bin_ok.ensures ∙ c.if-not-bin_ok.false))
 
-returns-2 : tie.Need-returns-2 invariant-loop decreases-loop
+returns-2 : tie.Need-returns invariant-loop decreases-loop
 returns-2 c =
-    let h = c.before in
-    let e : h.loop.i ≡ h.before.args.n = omega arith in
-    sym (rw e at h.loop.invariant.1)
+    let h = c in
+    let e : h.loop-i.i ≡ h.args.n = omega arith in
+    sym (rw e at h.loop-i.invariant.1)
 
-pub all-bins-ok-spec : {M : Type 1} → statement M
-all-bins-ok-spec =
+pub all_bins_ok_spec : {M : Type 1} → statement M
+all_bins_ok_spec =
     tie.close
     (tie.spec
     invariant-loop

@@ -19,58 +19,58 @@ answer-is : (l l₀ : List ℤ) (n tol : ℕ) (p : Peak) (z : ℤ) (x : Float) �
     → ◌≡◌ {A = Answer} (record { peak = p; offset = z; prominence = x }) (answer_at l₀ n tol (hough_peak l₀ n tol))
 answer-is l l₀ n tol p z x el ep ez ex = rw (ez, ex, ep, el) refl
 
-abbrev start : tie.After-put-sums → tie.Start
+abbrev start : tie.After-put_sums → tie.Start
 start c = c.before.before
 
-abbrev summed : tie.After-panako-hough-peak → tie.After-put-sums
-summed c = c.before.before.before
+abbrev summed : tie.After-panako_hough_peak-peak → tie.After-put_sums
+summed c = c.before.before
 
-roomy : (c : tie.After-put-sums) → Roomy c.put-sums.new.0 (start c).args.n
-roomy c = let o = start c in roomy-kept o.args.s.now c.put-sums.new.0 o.args.n c.put-sums.auto.0 c.put-sums.ensures.kept o.pre.0
+roomy : (c : tie.After-put_sums) → Roomy c.put_sums.new.s (start c).args.n
+roomy c = let o = start c in roomy-kept o.args.s.now c.put_sums.new.s o.args.n c.put_sums.auto.s c.put_sums.ensures.kept o.requires.0
 
-mul-e : tie.Need-overflow-mul-e
+mul-e : tie.Need-overflow_mul-e
 mul-e c = search rules
 
-put-sums-requires : tie.Need-put-sums-requires
+put-sums-requires : tie.Need-put_sums-requires
 put-sums-requires c κs = search rules
 
-panako-hough-peak-requires : tie.Need-panako-hough-peak-requires
-panako-hough-peak-requires c κs = let p = c.before.before in (roomy p, p.put-sums.ensures.sums)
+panako-hough-peak-requires : tie.Need-panako_hough_peak-peak-requires
+panako-hough-peak-requires c κs = let p = c.before in (roomy p, p.put_sums.ensures.sums)
 
-slice-reshare-prefix-panako-peak-offset : tie.Need-slice-reshare-prefix-panako-peak-offset
+slice-reshare-prefix-panako-peak-offset : tie.Need-slice_bounds-panako_peak_offset-end
 slice-reshare-prefix-panako-peak-offset c = search rules
 
-slice-aggregate-panako-peak-offset : tie.Need-slice-aggregate-panako-peak-offset
-slice-aggregate-panako-peak-offset c = let p = summed c.before in bins-long p.put-sums.last.0 (start p).args.n (roomy p).room
+slice-aggregate-panako-peak-offset : tie.Need-slice_bounds-panako_peak_offset-end-2
+slice-aggregate-panako-peak-offset c = let p = summed c in bins-long p.put_sums.new.s (start p).args.n (roomy p).room
 
-panako-peak-offset-requires : tie.Need-panako-peak-offset-requires
+panako-peak-offset-requires : tie.Need-panako_peak_offset-requires
 panako-peak-offset-requires c κs =
+    let k = c in
+    let p = summed k in
+    ((roomy p).bins, (start p).requires.2, k.panako_hough_peak-peak.ensures.1.0 (start p).requires.1)
+
+panako-prominence-requires : tie.Need-panako_prominence-requires
+panako-prominence-requires c κs =
     let k = c.before in
     let p = summed k in
-    ((roomy p).bins, (start p).pre.2, k.panako-hough-peak.ensures.1.0 (start p).pre.1)
+    (roomy p, (start p).requires.2, p.put_sums.ensures.sums, k.panako_hough_peak-peak.ensures.1.0 (start p).requires.1)
 
-panako-prominence-requires : tie.Need-panako-prominence-requires
-panako-prominence-requires c κs =
-    let k = c.before.before.before in
-    let p = summed k in
-    (roomy p, (start p).pre.2, p.put-sums.ensures.sums, k.panako-hough-peak.ensures.1.0 (start p).pre.1)
-
-same_length : tie.Need-same-length
+same_length : tie.Need-shape_of-s
 same_length c = search rules
 
 returns : tie.Need-returns
 returns c =
-    let f = c.before.before in
+    let f = c in
     let k = f.before.before in
     let p = summed k in (
-      answer-is _ _ _ _ k.panako-hough-peak.result _ c.panako-prominence.result p.put-sums.ensures.kept.bins k.panako-hough-peak.ensures.0
-          (to_z-of_z w64 f.panako-peak-offset.result (record { sfits = f.panako-peak-offset.type-inv }) ∙ f.panako-peak-offset.ensures)
-          c.panako-prominence.ensures,
-      p.put-sums.ensures,
+      answer-is _ _ _ _ k.panako_hough_peak-peak.result _ c.panako_prominence.result p.put_sums.ensures.kept.bins k.panako_hough_peak-peak.ensures.0
+          (to_z-of_z w64 f.panako_peak_offset.result (record { sfits = f.panako_peak_offset.type_inv }) ∙ f.panako_peak_offset.ensures)
+          c.panako_prominence.ensures,
+      p.put_sums.ensures,
     )
 
-pub answer-of-spec : {M : Type 1} → statement M
-answer-of-spec =
+pub answer_of_spec : {M : Type 1} → statement M
+answer_of_spec =
     tie.close
     (tie.spec
     mul-e

@@ -9,60 +9,60 @@ use Rattle.hough.proofs.Walking.{Behind, behind-none, behind_more}
 use Rattle.hough.proofs.background_of.Statement.{statement}
 use Rattle.hough.proofs.background_of.Tie as tie
 
-abbrev invariant-loop : tie.invariant-loop
+abbrev invariant-loop : tie.invariant-loop-i
 invariant-loop s n tol a e b₀ i₀ b i = (i ≤ n) × Behind (take (3 * n) s) n tol a i b
 
-abbrev decreases-loop : tie.decreases-loop
+abbrev decreases-loop : tie.decreases-loop-i
 decreases-loop s n tol a e b₀ i₀ b i = n - i
 
-mul-e : tie.Need-overflow-mul-e invariant-loop decreases-loop
+mul-e : tie.Need-overflow_mul-e invariant-loop decreases-loop
 mul-e c = search rules
 
-loop-holds : tie.Need-loop-init invariant-loop decreases-loop
+loop-holds : tie.Need-loop-i-init invariant-loop decreases-loop
 loop-holds c = (omega arith, behind-none _ _ _ _)
 
-slice-aggregate-is-far : tie.Need-slice-aggregate-is-far invariant-loop decreases-loop
-slice-aggregate-is-far c = let o = c.before.before.before in bins-long o.args.s.now o.args.n o.requires.0.room
+slice-aggregate-is-far : tie.Need-slice_bounds-is_far-end invariant-loop decreases-loop
+slice-aggregate-is-far c = let o = c in bins-long o.args.s.now o.args.n o.requires.0.room
 
-is-far-requires : tie.Need-is-far-requires invariant-loop decreases-loop
+is-far-requires : tie.Need-is_far-requires invariant-loop decreases-loop
 is-far-requires c κs =
-    let o = c.before.before.before in
-    (o.requires.0.bins, o.requires.1, o.requires.3, c.before.loop-test.true)
+    let o = c in
+    (o.requires.0.bins, o.requires.1, o.requires.3, c.loop-i-test.true)
 
-sum-at-requires : tie.Need-sum-at-requires invariant-loop decreases-loop
+sum-at-requires : tie.Need-sum_at-requires invariant-loop decreases-loop
 sum-at-requires c κs = search rules
 
-more-requires : tie.Need-more-requires invariant-loop decreases-loop
+more-requires : tie.Need-more-b-requires invariant-loop decreases-loop
 more-requires c κs =
-    let l = c.before.before.before.before in
-    let o = l.before in
-    let h = l.loop in
-    (omega (arith, h.invariant.0, h.invariant.1.small, o.requires.0.bins.few), omega (arith, h.invariant.0, h.invariant.1.few, o.requires.0.bins.few), omega (arith, c.sum-at.ensures.1))
+    let l = c in
+    let o = l in
+    let h = l.loop-i in
+    (omega (arith, h.invariant.0, h.invariant.1.small, o.requires.0.bins.few), omega (arith, h.invariant.0, h.invariant.1.few, o.requires.0.bins.few), omega (arith, c.sum_at.ensures.1))
 
-add-i : tie.Need-overflow-add-i invariant-loop decreases-loop
+add-i : tie.Need-overflow_add-i invariant-loop decreases-loop
 add-i c = search rules
 
-loop-less : tie.Need-loop-smaller invariant-loop decreases-loop
+loop-less : tie.Need-loop-i-smaller invariant-loop decreases-loop
 loop-less c = search rules
 
-loop-again : tie.Need-loop-preserved invariant-loop decreases-loop
+loop-again : tie.Need-loop-i-preserved invariant-loop decreases-loop
 loop-again c =
-    let f = c.before.before in
-    let l = f.before.before in
-    let h = l.before.loop in
-    let v = c.before.sum-at in
-    (omega (arith, l.loop-test.true), behind_more _ _ _ _ h.i h.b c.more.result f.is-far.result v.result c.more.ensures f.is-far.ensures v.ensures.0 v.ensures.1 h.invariant.1)
+    let f = c in
+    let l = f in
+    let h = l.loop-i in
+    let v = c.sum_at in
+    (omega (arith, l.loop-i-test.true), behind_more _ _ _ _ h.i h.b c.more-b.result f.is_far.result v.result c.more-b.ensures f.is_far.ensures v.ensures.0 v.ensures.1 h.invariant.1)
 
 returns : tie.Need-returns invariant-loop decreases-loop
 unfolding far_sum far_count
 returns c =
-    let o = c.before.before in
-    let h = c.before.loop in
-    let z : h.i ≡ o.args.n = omega (arith, h.invariant.0, c.loop-test.false) in
+    let o = c in
+    let h = c.loop-i in
+    let z : h.i ≡ o.args.n = omega (arith, h.invariant.0, c.loop-i-test.false) in
     (rw z at h.invariant.1.sum, rw z at h.invariant.1.count)
 
-pub background-of-spec : {M : Type 1} → statement M
-background-of-spec =
+pub background_of_spec : {M : Type 1} → statement M
+background_of_spec =
     tie.close
     (tie.spec
     invariant-loop

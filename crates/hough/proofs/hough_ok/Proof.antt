@@ -6,20 +6,20 @@ use borrow.Author.Rules.{rules}
 use Rattle.hough.proofs.hough_ok.Statement.{statement}
 use Rattle.hough.proofs.hough_ok.Tie as tie
 
-returns : tie.Need-returns
-returns c = rw (lt-leb _ _ c.if1.true) refl
+returns : tie.Need-returns-then-n-s
+returns c = rw (lt-leb _ _ c.if-n-s.true) refl
 
-mul-e : tie.Need-overflow-mul-e
+mul-e : tie.Need-overflow_mul-e
 mul-e c = search rules
 
-slice-aggregate-bins-ok : tie.Need-slice-aggregate-bins-ok
-slice-aggregate-bins-ok c = let o = c.before.before in bins-long o.args.s.now o.args.n (omega (arith, c.before.if1.false))
+slice-aggregate-bins-ok : tie.Need-slice_bounds-bins_ok-end
+slice-aggregate-bins-ok c = let o = c in bins-long o.args.s.now o.args.n (omega (arith, c.if-n-s.false))
 
-bins-ok-requires : tie.Need-bins-ok-requires
+bins-ok-requires : tie.Need-bins_ok-requires
 bins-ok-requires c κs = search rules
 
-returns-2 : tie.Need-returns-2
-returns-2 c = rw (le-leb _ _ c.before.before.if1.false, c.bins-ok.ensures) refl
+returns-2 : tie.Need-returns
+returns-2 c = rw (le-leb _ _ c.if-n-s.false, c.bins_ok.ensures) refl
 
-pub hough-ok-spec : {M : Type 1} → statement M
-hough-ok-spec = tie.close (tie.spec returns mul-e slice-aggregate-bins-ok bins-ok-requires returns-2)
+pub hough_ok_spec : {M : Type 1} → statement M
+hough_ok_spec = tie.close (tie.spec returns mul-e slice-aggregate-bins-ok bins-ok-requires returns-2)

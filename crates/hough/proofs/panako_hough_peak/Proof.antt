@@ -10,41 +10,41 @@ use Rattle.hough.proofs.Walking.{leads-more, peak-found}
 use Rattle.hough.proofs.panako_hough_peak.Statement.{statement}
 use Rattle.hough.proofs.panako_hough_peak.Tie as tie
 
-abbrev invariant-loop : tie.invariant-loop
+abbrev invariant-loop : tie.invariant-loop-i
 invariant-loop s n tol best₀ i₀ best i = (i ≤ n) × Leads (hough_sum (take (3 * n) s) n tol) i best.votes best.at
 
-abbrev decreases-loop : tie.decreases-loop
+abbrev decreases-loop : tie.decreases-loop-i
 decreases-loop s n tol best₀ i₀ best i = n - i
 
-loop-holds : tie.Need-loop-init invariant-loop decreases-loop
+loop-holds : tie.Need-loop-i-init invariant-loop decreases-loop
 loop-holds c = (omega arith, leads-none _)
 
-sum-at-requires : tie.Need-sum-at-requires invariant-loop decreases-loop
+sum-at-requires : tie.Need-sum_at-requires invariant-loop decreases-loop
 sum-at-requires c κs = search rules
 
-better-requires : tie.Need-better-requires invariant-loop decreases-loop
+better-requires : tie.Need-better-best-requires invariant-loop decreases-loop
 better-requires c κs = search rules
 
-add-i : tie.Need-overflow-add-i invariant-loop decreases-loop
+add-i : tie.Need-overflow_add-i invariant-loop decreases-loop
 add-i c = search rules
 
-loop-less : tie.Need-loop-smaller invariant-loop decreases-loop
+loop-less : tie.Need-loop-i-smaller invariant-loop decreases-loop
 loop-less c = search rules
 
-loop-again : tie.Need-loop-preserved invariant-loop decreases-loop
+loop-again : tie.Need-loop-i-preserved invariant-loop decreases-loop
 loop-again c =
-    let h = c.before.before.before.loop in
-    (omega (arith, c.before.before.loop-test.true), rw (c.better.ensures, c.before.sum-at.ensures.0) (leads-more _ h.i h.best h.invariant.1))
+    let h = c.loop-i in
+    (omega (arith, c.loop-i-test.true), rw (c.better-best.ensures, c.sum_at.ensures.0) (leads-more _ h.i h.best h.invariant.1))
 
 returns : tie.Need-returns invariant-loop decreases-loop
 returns c =
-    let o = c.before.before in
-    let h = c.before.loop in
-    let z : h.i ≡ o.args.n = omega (arith, h.invariant.0, c.loop-test.false) in
+    let o = c in
+    let h = c.loop-i in
+    let z : h.i ≡ o.args.n = omega (arith, h.invariant.0, c.loop-i-test.false) in
     peak-found _ _ _ h.best (rw z at h.invariant.1) o.requires.0.bins
 
-pub panako-hough-peak-spec : {M : Type 1} → statement M
-panako-hough-peak-spec =
+pub panako_hough_peak_spec : {M : Type 1} → statement M
+panako_hough_peak_spec =
     tie.close
     (tie.spec
     invariant-loop

@@ -16,28 +16,28 @@ module _ (o : tie.Start) where
   sum = hough_sum (take (3 * o.args.n) o.args.s.now) o.args.n o.args.tol o.args.i
 
   small : sum ≤ 1000000
-  small = hough-small (take (3 * o.args.n) o.args.s.now) o.args.n o.pre.0.bins o.args.tol o.args.i o.args.n (omega arith)
+  small = hough-small (take (3 * o.args.n) o.args.s.now) o.args.n o.requires.0.bins o.args.tol o.args.i o.args.n (omega arith)
 
   read : word (get_or o.args.s.now (3 * o.args.n + o.args.i) (pos 0)) ≡ pos sum
-  read = ap word (o.pre.1 o.args.i o.pre.2) ∙ read_is (pos sum) (omega (arith, small))
+  read = ap word (o.requires.1 o.args.i o.requires.2) ∙ read_is (pos sum) (omega (arith, small))
 
-mul-j : tie.Need-overflow-mul-j
+mul-j : tie.Need-overflow_mul-j
 mul-j c = search rules
 
-add-j : tie.Need-overflow-add-j
+add-j : tie.Need-overflow_add-j
 add-j c = search rules
 
-mul-v : tie.Need-overflow-mul-v
+mul-v : tie.Need-offset_bounds-s-j
 mul-v c = search rules
 
-shared-slice-copy-out-v : tie.Need-shared-slice-copy-out-v
+shared-slice-copy-out-v : tie.Need-bounds-s-j
 shared-slice-copy-out-v c = search rules
 
-cast-result : tie.Need-overflow-cast-result
+cast-result : tie.Need-overflow_cast-result
 cast-result c = let o = c.before in rw (read o) (tt, record { fits = omega (arith, small o) })
 
 returns : tie.Need-returns
 returns c = let o = c.before in rw (read o) (refl, small o)
 
-pub sum-at-spec : {M : Type 1} → statement M
-sum-at-spec = tie.close (tie.spec mul-j add-j mul-v shared-slice-copy-out-v cast-result returns)
+pub sum_at_spec : {M : Type 1} → statement M
+sum_at_spec = tie.close (tie.spec mul-j add-j mul-v shared-slice-copy-out-v cast-result returns)

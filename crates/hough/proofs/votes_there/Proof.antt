@@ -8,19 +8,19 @@ use Rattle.hough.specs.Keys.{place}
 use Rattle.hough.proofs.votes_there.Statement.{statement}
 use Rattle.hough.proofs.votes_there.Tie as tie
 
-scale-at-requires : tie.Need-scale-at-requires
+scale-at-requires : tie.Need-scale_at-requires
 scale-at-requires c κs = search rules
 
-abs-diff-requires : tie.Need-abs-diff-requires
+abs-diff-requires : tie.Need-abs_diff-scales-requires
 abs-diff-requires c κs = search rules
 
-place-at-requires : tie.Need-place-at-requires
+place-at-requires : tie.Need-place_at-requires
 place-at-requires c κs = search rules
 
-votes-at-requires : tie.Need-votes-at-requires
+votes-at-requires : tie.Need-votes_at-requires
 votes-at-requires c κs = search rules
 
-abbrev start : tie.After-place-at → tie.Start
+abbrev start : tie.After-place_at → tie.Start
 start c = c.before.before.before
 
 abbrev there : tie.Start → Bool
@@ -29,23 +29,23 @@ there o =
     leb (dist a.k (scale a.s.now a.i)) 1 && eqb (place a.s.now a.i) a.x
 
 -- what is tested is whether the bin is there
-tested : (c : tie.After-place-at) → (leb c.before.abs_diff.result 1 && eqb c.place_at.result (start c).args.x) ≡ there (start c)
+tested : (c : tie.After-place_at) → (leb c.abs_diff-scales.result 1 && eqb c.place_at.result (start c).args.x) ≡ there (start c)
 tested c =
     let a = (start c).args in
-    ap₂ (λ x y. leb x 1 && eqb y a.x) (c.before.abs_diff.ensures ∙ ap (dist a.k) c.before.before.scale_at.ensures.0) c.place_at.ensures.0
+    ap₂ (λ x y. leb x 1 && eqb y a.x) (c.abs_diff-scales.ensures ∙ ap (dist a.k) c.scale_at.ensures.0) c.place_at.ensures.0
 
-returns : tie.Need-returns
+returns : tie.Need-returns-then-scales-place_at
 returns c =
     let o = start c.before.before in
-    c.votes-at.ensures ∙ ap (λ (z : Bool). when z (votes o.args.s.now o.args.i)) (sym c.before.if1.true ∙ tested c.before.before)
+    c.votes_at.ensures ∙ ap (λ (z : Bool). when z (votes o.args.s.now o.args.i)) (sym c.if-scales-place_at.true ∙ tested c.before.before)
 
-returns-2 : tie.Need-returns-2
+returns-2 : tie.Need-returns
 returns-2 c =
     let o = start c.before in
-    ap (λ (z : Bool). when z (votes o.args.s.now o.args.i)) (sym c.if1.false ∙ tested c.before)
+    ap (λ (z : Bool). when z (votes o.args.s.now o.args.i)) (sym c.if-scales-place_at.false ∙ tested c.before)
 
-pub votes-there-spec : {M : Type 1} → statement M
-votes-there-spec =
+pub votes_there_spec : {M : Type 1} → statement M
+votes_there_spec =
     tie.close
     (tie.spec
     scale-at-requires

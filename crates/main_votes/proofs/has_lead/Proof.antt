@@ -8,14 +8,14 @@ use borrow.Author.Rules.{rules}
 use Rattle.main_votes.proofs.has_lead.Statement.{statement}
 use Rattle.main_votes.proofs.has_lead.Tie as tie
 
-lead-at-requires : tie.Need-lead-at-requires
+lead-at-requires : tie.Need-lead_at-requires
 lead-at-requires c κs = search rules
 
-returns : tie.Need-returns
-returns c = (sym (ap (λ (b : Bool). when b 1) (eq-eqb _ _ (sym c.before.lead-at.ensures ∙ c.if1.true))), omega arith)
+returns : tie.Need-returns-then-lead_at-lead
+returns c = (sym (ap (λ (b : Bool). when b 1) (eq-eqb _ _ (sym c.lead_at.ensures ∙ c.if-lead_at-lead.true))), omega arith)
 
-returns-2 : tie.Need-returns-2
-returns-2 c = (sym (ap (λ (b : Bool). when b 1) (ne_eqb _ _ (λ e. c.if1.false (c.before.lead-at.ensures ∙ e)))), omega arith)
+returns-2 : tie.Need-returns-else-lead_at-lead
+returns-2 c = (sym (ap (λ (b : Bool). when b 1) (ne_eqb _ _ (λ e. c.if-lead_at-lead.false (c.lead_at.ensures ∙ e)))), omega arith)
 
-pub has-lead-spec : {M : Type 1} → statement M
-has-lead-spec = tie.close (tie.spec lead-at-requires returns returns-2)
+pub has_lead_spec : {M : Type 1} → statement M
+has_lead_spec = tie.close (tie.spec lead-at-requires returns returns-2)

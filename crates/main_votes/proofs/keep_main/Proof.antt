@@ -12,49 +12,49 @@ use borrow.Author.Rules.{rules}
 use Rattle.main_votes.proofs.keep_main.Statement.{statement}
 use Rattle.main_votes.proofs.keep_main.Tie as tie
 
-returns : tie.Need-returns
-returns c = let o = c.before in rw c.if1.true (main-none o.args.low o.args.bits o.args.least o.args.s.now, omega arith)
+returns : tie.Need-returns-then-v-eq0
+returns c = let o = c in rw c.if-v-eq0.true (main-none o.args.low o.args.bits o.args.least o.args.s.now, omega arith)
 
-lead-at-requires : tie.Need-lead-at-requires
+lead-at-requires : tie.Need-lead_at-lead-requires
 lead-at-requires c κs = search rules
 
-count-lead-requires : tie.Need-count-lead-requires
+count-lead-requires : tie.Need-count_lead-requires
 count-lead-requires c κs = search rules
 
-sub-others : tie.Need-overflow-sub-others
+sub-others : tie.Need-overflow_sub-others
 sub-others c = search rules
 
 -- what is kept, by what was counted
-module _ (c : tie.After-count-lead) where
+module _ (c : tie.After-count_lead) where
   abbrev o : tie.Start
-  o = c.before.before.before.before.before
+  o = c.before.before.before
 
-  counted : {t : Bool} → (ltb 0 (o.args.v - c.count-lead.result) && ltb (o.args.v - c.count-lead.result) o.args.least) ≡ t
-      → cond t (keep (has_lead o.args.low o.args.bits c.before.before.lead-at.result) (take o.args.v o.args.s.now)) (take o.args.v o.args.s.now) ≡ main_of o.args.low o.args.bits o.args.least (take o.args.v o.args.s.now)
+  counted : {t : Bool} → (ltb 0 (o.args.v - c.count_lead.result) && ltb (o.args.v - c.count_lead.result) o.args.least) ≡ t
+      → cond t (keep (has_lead o.args.low o.args.bits c.lead_at-lead.result) (take o.args.v o.args.s.now)) (take o.args.v o.args.s.now) ≡ main_of o.args.low o.args.bits o.args.least (take o.args.v o.args.s.now)
   counted {t} e =
       let a = o.args in
-      main-is a.low a.bits a.least a.s.now a.v (omega arith) o.pre.0 c.before.before.lead-at.result c.count-lead.result c.before.before.lead-at.ensures c.count-lead.ensures.0 t e
+      main-is a.low a.bits a.least a.s.now a.v (omega arith) o.requires.0 c.lead_at-lead.result c.count_lead.result c.lead_at-lead.ensures c.count_lead.ensures.0 t e
 
-keep-lead-requires : tie.Need-keep-lead-requires
+keep-lead-requires : tie.Need-keep_lead-requires
 keep-lead-requires c κs = search rules
 
-same_length : tie.Need-same-length
+same_length : tie.Need-shape_of-s-then-others-least
 same_length c = search rules
 
-returns-2 : tie.Need-returns-2
+returns-2 : tie.Need-returns-then-others-least
 returns-2 c =
-    let k = c.before.keep-lead in
+    let k = c.keep_lead in
     let m = counted c.before.before.before.before in
-    (k.ensures.0 ∙ m c.before.before.before.if2.true, k.ensures.1)
+    (k.ensures.0 ∙ m c.if-others-least.true, k.ensures.1)
 
-same-length-2 : tie.Need-same-length-2
+same-length-2 : tie.Need-shape_of-s
 same-length-2 c = search rules
 
-returns-3 : tie.Need-returns-3
-returns-3 c = (counted c.before c.if2.false, omega arith)
+returns-3 : tie.Need-returns
+returns-3 c = (counted c.before c.if-others-least.false, omega arith)
 
-pub keep-main-spec : {M : Type 1} → statement M
-keep-main-spec =
+pub keep_main_spec : {M : Type 1} → statement M
+keep_main_spec =
     tie.close
     (tie.spec
     returns

@@ -3,13 +3,13 @@ use lib.Ieee.{of_bits}
 use Rattle.panako_vote.proofs.at_least_zero.Statement.{statement}
 use Rattle.panako_vote.proofs.at_least_zero.Tie as tie
 
-returns : tie.Need-returns
+returns : tie.Need-returns-then-x
 unfolding of_bits
-returns c = rw c.if1.true
+returns c = rw c.if-x.true
 
-returns-2 : tie.Need-returns-2
+returns-2 : tie.Need-returns-else-x
 unfolding of_bits
-returns-2 c = rw c.if1.false
+returns-2 c = rw c.if-x.false
 
-pub at-least-zero-spec : {M : Type 1} → statement M
-at-least-zero-spec = tie.close (tie.spec returns returns-2)
+pub at_least_zero_spec : {M : Type 1} → statement M
+at_least_zero_spec = tie.close (tie.spec returns returns-2)

@@ -3,11 +3,11 @@ use Rattle.std.proofs.Common.{eq-eqb, ne_eqb}
 use Rattle.panako_vote.proofs.bins_or_default.Statement.{statement}
 use Rattle.panako_vote.proofs.bins_or_default.Tie as tie
 
-returns : tie.Need-returns
-returns c = rw (eq-eqb _ _ c.if1.true)
+returns : tie.Need-returns-then-bins-eq0
+returns c = rw (eq-eqb _ _ c.if-bins-eq0.true)
 
-returns-2 : tie.Need-returns-2
-returns-2 c = rw (ne_eqb _ _ c.if1.false)
+returns-2 : tie.Need-returns-else-bins-eq0
+returns-2 c = rw (ne_eqb _ _ c.if-bins-eq0.false)
 
-pub bins-or-default-spec : {M : Type 1} → statement M
-bins-or-default-spec = tie.close (tie.spec returns returns-2)
+pub bins_or_default_spec : {M : Type 1} → statement M
+bins_or_default_spec = tie.close (tie.spec returns returns-2)

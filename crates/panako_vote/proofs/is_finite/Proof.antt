@@ -12,12 +12,12 @@ below-infinity nan = refl
 below-infinity (inf s) = refl
 below-infinity (fin s m e) = refl
 
-abs-f32-requires : tie.Need-abs-f32-requires
+abs-f32-requires : tie.Need-abs_f32-requires
 abs-f32-requires c κs = search rules
 
 returns : tie.Need-returns
 unfolding of_bits div
-returns c = rw c.abs-f32.ensures (below-infinity c.before.args.x)
+returns c = rw c.abs_f32.ensures (below-infinity c.args.x)
 
-pub is-finite-spec : {M : Type 1} → statement M
-is-finite-spec = tie.close (tie.spec abs-f32-requires returns)
+pub is_finite_spec : {M : Type 1} → statement M
+is_finite_spec = tie.close (tie.spec abs-f32-requires returns)

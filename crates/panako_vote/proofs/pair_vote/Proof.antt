@@ -7,59 +7,59 @@ use Rattle.panako_vote.proofs.Bounds.{offset-inside, with-bounds}
 use Rattle.panako_vote.proofs.pair_vote.Statement.{statement}
 use Rattle.panako_vote.proofs.pair_vote.Tie as tie
 
-is-unit-requires : tie.Need-is-unit-requires
+is-unit-requires : tie.Need-is_unit-requires
 is-unit-requires c κs = search rules
 
-unit-vote-requires : tie.Need-unit-vote-requires
+unit-vote-requires : tie.Need-unit_vote-requires
 unit-vote-requires c κs = search rules
 
-returns : tie.Need-returns
+returns : tie.Need-returns-then-is_unit
 returns c =
-    let u = c.before.before in
-    let o = u.before in
+    let u = c in
+    let o = u in
     let a = o.args in
-    with-bounds a.g o.requires _ a.q-anchor a.q-end a.r-anchor a.r-end (search rules) (search rules) (search rules) (search rules)
-    (c.unit-vote.ensures ∙ unit-is a.g o.requires a.q-anchor a.q-end a.r-anchor a.r-end (search rules) (search rules) (search rules) (sym u.is-unit.ensures ∙ c.before.if1.true))
+    with-bounds a.g o.requires _ a.q_anchor a.q_end a.r_anchor a.r_end (search rules) (search rules) (search rules) (search rules)
+    (c.unit_vote.ensures ∙ unit-is a.g o.requires a.q_anchor a.q_end a.r_anchor a.r_end (search rules) (search rules) (search rules) (sym u.is_unit.ensures ∙ c.if-is_unit.true))
 
-has-vote-requires : tie.Need-has-vote-requires
+has-vote-requires : tie.Need-has_vote-requires
 has-vote-requires c κs = search rules
 
-pair-scale-requires : tie.Need-pair-scale-requires
+pair-scale-requires : tie.Need-pair_scale-s-requires
 pair-scale-requires c κs = search rules
 
-int-to-float-b : tie.Need-int-to-float-b
+int-to-float-b : tie.Need-int_to_float-b
 int-to-float-b c = search rules
 
-int-to-float-b-2 : tie.Need-int-to-float-b-2
+int-to-float-b-2 : tie.Need-int_to_float-b-then-has_vote
 int-to-float-b-2 c = search rules
 
-scale-bin-requires : tie.Need-scale-bin-requires
+scale-bin-requires : tie.Need-scale_bin-bin-requires
 scale-bin-requires c κs = search rules
 
-round-small-to-i64-requires : tie.Need-round-small-to-i64-requires
+round-small-to-i64-requires : tie.Need-round_small_to_i64-offset-requires
 round-small-to-i64-requires c κs =
-    let p = c.before.before.before.before.before in
-    let t = p.before in
-    let o = t.before.before.before.before in
+    let p = c in
+    let t = p in
+    let o = t in
     let a = o.args in
-    offset-inside a.g o.requires a.q-anchor a.q-end a.r-anchor a.r-end (search rules) (search rules) (search rules) (search rules)
-    p.pair-scale.result p.pair-scale.ensures (sym t.before.has-vote.ensures ∙ t.if2.true)
+    offset-inside a.g o.requires a.q_anchor a.q_end a.r_anchor a.r_end (search rules) (search rules) (search rules) (search rules)
+    p.pair_scale-s.result p.pair_scale-s.ensures (sym t.has_vote.ensures ∙ t.if-has_vote.true)
 
-returns-2 : tie.Need-returns-2
+returns-2 : tie.Need-returns-then-has_vote
 returns-2 c =
-    let p = c.before.before.before.before.before.before in
-    let t = p.before in
-    let o = t.before.before.before.before in
+    let p = c in
+    let t = p in
+    let o = t in
     let a = o.args in
-    let offset = to_z-of_z w64 c.round-small-to-i64.result (record { sfits = c.round-small-to-i64.type-inv }) ∙ c.round-small-to-i64.ensures in
-    with-bounds a.g o.requires _ a.q-anchor a.q-end a.r-anchor a.r-end (search rules) (search rules) (search rules) (search rules)
-    (rw (c.before.scale-bin.ensures, offset, p.pair-scale.ensures) (votes a.g a.q-anchor a.q-end a.r-anchor a.r-end (sym t.before.has-vote.ensures ∙ t.if2.true)))
+    let offset = to_z-of_z w64 c.round_small_to_i64-offset.result (record { sfits = c.round_small_to_i64-offset.type_inv }) ∙ c.round_small_to_i64-offset.ensures in
+    with-bounds a.g o.requires _ a.q_anchor a.q_end a.r_anchor a.r_end (search rules) (search rules) (search rules) (search rules)
+    (rw (c.scale_bin-bin.ensures, offset, p.pair_scale-s.ensures) (votes a.g a.q_anchor a.q_end a.r_anchor a.r_end (sym t.has_vote.ensures ∙ t.if-has_vote.true)))
 
-returns-3 : tie.Need-returns-3
-returns-3 c = (no-vote _ (sym c.before.has-vote.ensures ∙ c.if2.false), tt)
+returns-3 : tie.Need-returns
+returns-3 c = (no-vote _ (sym c.has_vote.ensures ∙ c.if-has_vote.false), tt)
 
-pub pair-vote-spec : {M : Type 1} → statement M
-pair-vote-spec =
+pub pair_vote_spec : {M : Type 1} → statement M
+pair_vote_spec =
     tie.close
     (tie.spec
     is-unit-requires

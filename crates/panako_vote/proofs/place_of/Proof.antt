@@ -12,14 +12,14 @@ arg o = word-is o.args.offset o.ranges.offset
 sum : (o : tie.Start) → word (o.args.offset +ℤ pos middle) ≡ o.args.offset +ℤ pos middle
 sum o = word-is (o.args.offset +ℤ pos middle) (place-fits o.args.offset o.requires)
 
-add-up : tie.Need-overflow-add-up
+add-up : tie.Need-overflow_add-up
 add-up c = rw (arg c) (place-fits c.args.offset c.requires)
 
-cast-result : tie.Need-overflow-cast-result
+cast-result : tie.Need-overflow_cast-result
 cast-result c = rw (arg c, sum c) (place-word c.args.offset c.requires)
 
 returns : tie.Need-returns
 returns c = rw (arg c, sum c) (refl, place-small c.args.offset c.requires)
 
-pub place-of-spec : {M : Type 1} → statement M
-place-of-spec = tie.close (tie.spec add-up cast-result returns)
+pub place_of_spec : {M : Type 1} → statement M
+place_of_spec = tie.close (tie.spec add-up cast-result returns)

@@ -6,37 +6,37 @@ use Rattle.panako_vote.proofs.Bins.{held_low, held_cut}
 use Rattle.panako_vote.proofs.scale_bin.Statement.{statement}
 use Rattle.panako_vote.proofs.scale_bin.Tie as tie
 
-int-to-float-at-most : tie.Need-int-to-float-at-most
+int-to-float-at-most : tie.Need-int_to_float-last
 int-to-float-at-most c = search rules
 
-at-most-requires : tie.Need-at-most-requires
+at-most-requires : tie.Need-at_most-requires
 at-most-requires c κs = search rules
 
-at-least-zero-requires : tie.Need-at-least-zero-requires
+at-least-zero-requires : tie.Need-at_least_zero-requires
 at-least-zero-requires c κs = search rules
 
-small-whole-part-requires : tie.Need-small-whole-part-requires
+small-whole-part-requires : tie.Need-small_whole_part-requires
 small-whole-part-requires c κs =
-    let m = c.before in
-    let s = m.before.before in
-    held_low s.args.x s.args.last (search rules) m.at_most.result m.at_most.ensures c.at-least-zero.result c.at-least-zero.ensures
+    let m = c in
+    let s = m in
+    held_low s.args.x s.args.last (search rules) m.at_most.result m.at_most.ensures c.at_least_zero.result c.at_least_zero.ensures
 
-cut : (c : tie.After-at-least-zero) → let s = c.before.before.before in
-    let n = to_unsigned 64 c.at-least-zero.result in
+cut : (c : tie.After-at_least_zero) → let s = c in
+    let n = to_unsigned 64 c.at_least_zero.result in
     (n ≤ s.args.last) × (n ≡ bin_at s.args.x s.args.last)
 cut c =
-    let m = c.before in
-    let s = m.before.before in
-    held_cut s.args.x s.args.last (search rules) m.at_most.result m.at_most.ensures c.at-least-zero.result c.at-least-zero.ensures
+    let m = c in
+    let s = m in
+    held_cut s.args.x s.args.last (search rules) m.at_most.result m.at_most.ensures c.at_least_zero.result c.at_least_zero.ensures
 
-cast-result : tie.Need-overflow-cast-result
-cast-result c = let b = cut c.before in omega (arith, c.small-whole-part.ensures)
+cast-result : tie.Need-overflow_cast-result
+cast-result c = let b = cut c.before in omega (arith, c.small_whole_part.ensures)
 
 returns : tie.Need-returns
-returns c = c.small-whole-part.ensures ∙ (cut c.before).1
+returns c = c.small_whole_part.ensures ∙ (cut c.before).1
 
-pub scale-bin-spec : {M : Type 1} → statement M
-scale-bin-spec =
+pub scale_bin_spec : {M : Type 1} → statement M
+scale_bin_spec =
     tie.close
     (tie.spec
     int-to-float-at-most

@@ -5,15 +5,15 @@ use Rattle.panako_vote.specs.Settings.{within_limits}
 use Rattle.panako_vote.proofs.within_limits.Statement.{statement}
 use Rattle.panako_vote.proofs.within_limits.Tie as tie
 
-abs-f32-requires : tie.Need-abs-f32-requires
+abs-f32-requires : tie.Need-abs_f32-requires
 abs-f32-requires c κs = search rules
 
-abs-f32-requires-2 : tie.Need-abs-f32-requires-2
+abs-f32-requires-2 : tie.Need-abs_f32-requires-2
 abs-f32-requires-2 c κs = search rules
 
 returns : tie.Need-returns
 unfolding within_limits of_bits
-returns c = rw (c.before.before.before.abs-f32.ensures, c.before.before.abs-f322.ensures)
+returns c = rw (c.abs_f32.ensures, c.abs_f32-2.ensures)
 
-pub within-limits-spec : {M : Type 1} → statement M
-within-limits-spec = tie.close (tie.spec abs-f32-requires abs-f32-requires-2 returns)
+pub within_limits_spec : {M : Type 1} → statement M
+within_limits_spec = tie.close (tie.spec abs-f32-requires abs-f32-requires-2 returns)

@@ -3,17 +3,17 @@ use Rattle.std.proofs.Common.{refl, rules, le-ltb, lt-ltb}
 use Rattle.query_search.proofs.is_under.Statement.{statement}
 use Rattle.query_search.proofs.is_under.Tie as tie
 
-mul-result : tie.Need-overflow-mul-result
+mul-result : tie.Need-offset_bounds-posts-e
 mul-result c = search rules
 
-shared-slice-read-result : tie.Need-shared-slice-read-result
+shared-slice-read-result : tie.Need-bounds-posts-e
 shared-slice-read-result c = search rules
 
-returns : tie.Need-returns
-returns c = let a = c.before.before.args in rw (lt-ltb a.e a.last c.before.if1.true) refl
+returns : tie.Need-returns-then-e-last
+returns c = let a = c.args in rw (lt-ltb a.e a.last c.if-e-last.true) refl
 
-returns-2 : tie.Need-returns-2
-returns-2 c = let a = c.before.args in rw (le-ltb a.e a.last c.if1.false) refl
+returns-2 : tie.Need-returns
+returns-2 c = let a = c.args in rw (le-ltb a.e a.last c.if-e-last.false) refl
 
-pub is-under-spec : {M : Type 1} → statement M
-is-under-spec = tie.close (tie.spec mul-result shared-slice-read-result returns returns-2)
+pub is_under_spec : {M : Type 1} → statement M
+is_under_spec = tie.close (tie.spec mul-result shared-slice-read-result returns returns-2)

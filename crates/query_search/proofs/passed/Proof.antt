@@ -10,45 +10,45 @@ below-requires c κs = search rules
 below-requires-2 : tie.Need-below-requires-2
 below-requires-2 c κs = search rules
 
-add-result : tie.Need-overflow-add-result
+add-result : tie.Need-overflow_add-result
 add-result c = search rules
 
 below-requires-3 : tie.Need-below-requires-3
 below-requires-3 c κs = search rules
 
-add-result-2 : tie.Need-overflow-add-result-2
+add-result-2 : tie.Need-overflow_add-result-2
 add-result-2 c = search rules
 
 below-requires-4 : tie.Need-below-requires-4
 below-requires-4 c κs = search rules
 
-add-result-3 : tie.Need-overflow-add-result-3
+add-result-3 : tie.Need-overflow_add-result-3
 add-result-3 c = search rules
 
 below-requires-5 : tie.Need-below-requires-5
 below-requires-5 c κs = search rules
 
-add-result-4 : tie.Need-overflow-add-result-4
+add-result-4 : tie.Need-overflow_add-result-4
 add-result-4 c = search rules
 
 below-requires-6 : tie.Need-below-requires-6
 below-requires-6 c κs = search rules
 
-add-result-5 : tie.Need-overflow-add-result-5
+add-result-5 : tie.Need-overflow_add-result-5
 add-result-5 c = search rules
 
 below-requires-7 : tie.Need-below-requires-7
 below-requires-7 c κs = search rules
 
-add-result-6 : tie.Need-overflow-add-result-6
+add-result-6 : tie.Need-overflow_add-result-6
 add-result-6 c = search rules
 
 returns : tie.Need-returns
 unfolding pivots_below
 returns c = (omega arith, omega arith)
 
-pub passed-spec : {M : Type 1} → statement M
-passed-spec =
+pub passed_spec : {M : Type 1} → statement M
+passed_spec =
     tie.close
     (tie.spec
     below-requires

@@ -3,37 +3,37 @@ use Rattle.std.proofs.Common.{◌≡◌, ◌-◌, length, drop, refl, arith, len
 use Rattle.query_search.proofs.tail.Statement.{statement}
 use Rattle.query_search.proofs.tail.Tie as tie
 
-returns : tie.Need-returns
+returns : tie.Need-returns-then-by-eq0
 returns c =
-    let a = c.before.args in
-    let e : a.by - a.w ≡ 0 = omega (arith, c.if1.true) in
+    let a = c.args in
+    let e : a.by - a.w ≡ 0 = omega (arith, c.if-by-eq0.true) in
     rw e refl
 
-sub-from : tie.Need-overflow-sub-from
-sub-from c = c.before.requires.0 (omega (arith, c.if1.false))
+sub-from : tie.Need-overflow_sub-from
+sub-from c = c.requires.0 (omega (arith, c.if-by-eq0.false))
 
-cast-from : tie.Need-overflow-cast-from
+cast-from : tie.Need-overflow_cast-from
 cast-from c = search rules
 
-mul-result : tie.Need-overflow-mul-result
+mul-result : tie.Need-offset_bounds-posts-from
 mul-result c = search rules
 
-sub-result : tie.Need-overflow-sub-result
+sub-result : tie.Need-slice_bounds-result-count
 sub-result c = search rules
 
-part-result-start : tie.Need-slice-bounds-result-start
+part-result-start : tie.Need-slice_bounds-result-start
 part-result-start c = search rules
 
-part-result-end : tie.Need-slice-bounds-result-end
+part-result-end : tie.Need-slice_bounds-result-end
 part-result-end c = search rules
 
-returns-2 : tie.Need-returns-2
+returns-2 : tie.Need-returns
 returns-2 c =
-    let a = c.before.before.args in
+    let a = c.args in
     take_all (length a.posts.now - (a.by - a.w)) (drop (a.by - a.w) a.posts.now) (omega (arith, length-drop (a.by - a.w) a.posts.now))
 
-pub tail-spec : {M : Type 1} → statement M
-tail-spec =
+pub tail_spec : {M : Type 1} → statement M
+tail_spec =
     tie.close
     (tie.spec
     returns

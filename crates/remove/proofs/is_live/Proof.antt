@@ -9,29 +9,29 @@ use borrow.Author.Rules.{rules}
 use Rattle.remove.proofs.is_live.Statement.{statement}
 use Rattle.remove.proofs.is_live.Tie as tie
 
-size-requires : tie.Need-size-requires
+size-requires : tie.Need-size-j-requires
 size-requires c κs = search rules
 
 at-requires : tie.Need-at-requires
 at-requires c κs = search rules
 
-size-requires-2 : tie.Need-size-requires-2
+size-requires-2 : tie.Need-size-requires
 size-requires-2 c κs = search rules
 
-returns : tie.Need-returns
+returns : tie.Need-returns-then-size-j
 unfolding live_id
-returns c = let s = c.before.before.before.before.before in
+returns c = let s = c in
     rw (le-ltb s.args.id (get_or s.args.refs.now 0 0) (omega arith))
 
-row-word-requires : tie.Need-row-word-requires
+row-word-requires : tie.Need-row_word-requires
 row-word-requires c κs = search rules
 
-returns-2 : tie.Need-returns-2
+returns-2 : tie.Need-returns
 unfolding live_id
-returns-2 c = let s = c.before.before.before.before.before.before in
-    rw (lt-ltb s.args.id (get_or s.args.refs.now 0 0) (omega arith), c.row_word.ensures, c.before.before.before.before.size.ensures)
+returns-2 c = let s = c in
+    rw (lt-ltb s.args.id (get_or s.args.refs.now 0 0) (omega arith), c.row_word.ensures, c.size-j.ensures)
 
-pub is-live-spec : {M : Type 1} → statement M
-is-live-spec =
+pub is_live_spec : {M : Type 1} → statement M
+is_live_spec =
     tie.close
     (tie.spec size-requires at-requires size-requires-2 returns row-word-requires returns-2)

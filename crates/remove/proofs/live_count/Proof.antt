@@ -9,36 +9,36 @@ use Rattle.remove.proofs.Runs.{count-refused, count-done, header-there, vacant-f
 use Rattle.remove.proofs.live_count.Statement.{statement}
 use Rattle.remove.proofs.live_count.Tie as tie
 
-refusal-of-requires : tie.Need-refusal-of-requires
+refusal-of-requires : tie.Need-refusal_of-r-requires
 refusal-of-requires c κs = search rules
 
-returns : tie.Need-returns
-returns c = let s = c.before.before.before.before.before in
-    let r = c.before.refusal-of in
-    let e = count-refused s.args.w (words s.args.refs.now s.args.posts.now s.args.stops.now) (omega arith) (λ q. c.if1.true (r.ensures ∙ q)) in
+returns : tie.Need-returns-then-r-ne0
+returns c = let s = c in
+    let r = c.refusal_of-r in
+    let e = count-refused s.args.w (words s.args.refs.now s.args.posts.now s.args.stops.now) (omega arith) (λ q. c.if-r-ne0.true (r.ensures ∙ q)) in
     ap (λ n. (refused n, words s.args.refs.now s.args.posts.now s.args.stops.now)) r.ensures ∙ sym e
 
 at-requires : tie.Need-at-requires
-at-requires c κs = let s = c.before.before.before.before.before in
-    let a = accepted s.args.w (words s.args.refs.now s.args.posts.now s.args.stops.now) (sym c.before.refusal-of.ensures ∙ c.if1.false) in
+at-requires c κs = let s = c in
+    let a = accepted s.args.w (words s.args.refs.now s.args.posts.now s.args.stops.now) (sym c.refusal_of-r.ensures ∙ c.if-r-ne0.false) in
     omega (arith, header-there s.args.w s.args.refs.now s.args.posts.now s.args.stops.now s.requires.0 a.0 a.1)
 
 at-requires-2 : tie.Need-at-requires-2
-at-requires-2 c κs = let s = c.before.before.before.before.before.before in
-    let a = accepted s.args.w (words s.args.refs.now s.args.posts.now s.args.stops.now) (sym c.before.before.refusal-of.ensures ∙ c.before.if1.false) in
+at-requires-2 c κs = let s = c in
+    let a = accepted s.args.w (words s.args.refs.now s.args.posts.now s.args.stops.now) (sym c.refusal_of-r.ensures ∙ c.if-r-ne0.false) in
     omega (arith, header-there s.args.w s.args.refs.now s.args.posts.now s.args.stops.now s.requires.0 a.0 a.1)
 
-sub-t9 : tie.Need-overflow-sub-t9
-sub-t9 c = let s = c.before.before.before.before.before.before.before in
-    let a = accepted s.args.w (words s.args.refs.now s.args.posts.now s.args.stops.now) (sym c.before.before.before.refusal-of.ensures ∙ c.before.before.if1.false) in
-    omega (arith, vacant-few s.args.w s.args.refs.now s.args.posts.now s.args.stops.now s.requires.0 a.0 a.1, c.at2.ensures, c.before.at.ensures)
+sub-t9 : tie.Need-overflow_sub-result
+sub-t9 c = let s = c in
+    let a = accepted s.args.w (words s.args.refs.now s.args.posts.now s.args.stops.now) (sym c.refusal_of-r.ensures ∙ c.if-r-ne0.false) in
+    omega (arith, vacant-few s.args.w s.args.refs.now s.args.posts.now s.args.stops.now s.requires.0 a.0 a.1, c.at-2.ensures, c.at.ensures)
 
-returns-2 : tie.Need-returns-2
-returns-2 c = let s = c.before.before.before.before.before.before.before in
-    let a = accepted s.args.w (words s.args.refs.now s.args.posts.now s.args.stops.now) (sym c.before.before.before.refusal-of.ensures ∙ c.before.before.if1.false) in
+returns-2 : tie.Need-returns
+returns-2 c = let s = c in
+    let a = accepted s.args.w (words s.args.refs.now s.args.posts.now s.args.stops.now) (sym c.refusal_of-r.ensures ∙ c.if-r-ne0.false) in
     let e = count-done s.args.w s.args.refs.now s.args.posts.now s.args.stops.now s.requires.0 a.0 a.1 in
-    rw (c.at2.ensures, c.before.at.ensures) (sym e)
+    rw (c.at-2.ensures, c.at.ensures) (sym e)
 
-pub live-count-spec : {M : Type 1} → statement M
-live-count-spec =
+pub live_count_spec : {M : Type 1} → statement M
+live_count_spec =
     tie.close (tie.spec refusal-of-requires returns at-requires at-requires-2 sub-t9 returns-2)

@@ -14,57 +14,57 @@ use Rattle.remove.proofs.Runs.{remove-refused, remove-dead, remove-live, header-
 use Rattle.remove.proofs.remove.Statement.{statement}
 use Rattle.remove.proofs.remove.Tie as tie
 
-refusal-of-requires : tie.Need-refusal-of-requires
+refusal-of-requires : tie.Need-refusal_of-r-requires
 refusal-of-requires c κs = search rules
 
-same_length : tie.Need-same-length
+same_length : tie.Need-shape_of-refs-then-r-ne0
 same_length c = search rules
 
-same-length-2 : tie.Need-same-length-2
+same-length-2 : tie.Need-shape_of-posts-then-r-ne0
 same-length-2 c = search rules
 
-returns : tie.Need-returns
-returns c = let s = c.before.before.before.before.before.before.before in
-    let r = c.before.refusal-of in
-    let e = remove-refused s.args.w (words s.args.refs.now s.args.posts.now s.args.stops.now) (omega arith) (λ q. c.if1.true (r.ensures ∙ q)) s.args.id in
+returns : tie.Need-returns-then-r-ne0
+returns c = let s = c in
+    let r = c.refusal_of-r in
+    let e = remove-refused s.args.w (words s.args.refs.now s.args.posts.now s.args.stops.now) (omega arith) (λ q. c.if-r-ne0.true (r.ensures ∙ q)) s.args.id in
     ap (λ n. (refused n, words s.args.refs.now s.args.posts.now s.args.stops.now)) r.ensures ∙ sym e
 
-is-live-requires : tie.Need-is-live-requires
-is-live-requires c κs = let s = c.before.before.before.before.before.before.before.before in
-    let a = accepted s.args.w (words s.args.refs.now s.args.posts.now s.args.stops.now) (sym c.before.before.refusal-of.ensures ∙ c.before.if1.false) in
+is-live-requires : tie.Need-is_live-requires
+is-live-requires c κs = let s = c in
+    let a = accepted s.args.w (words s.args.refs.now s.args.posts.now s.args.stops.now) (sym c.refusal_of-r.ensures ∙ c.if-r-ne0.false) in
     (header-there s.args.w s.args.refs.now s.args.posts.now s.args.stops.now s.requires.0 a.0 a.1, rows-there s.args.w s.args.refs.now s.args.posts.now s.args.stops.now s.requires.0 a.0 a.1)
 
-same-length-3 : tie.Need-same-length-3
+same-length-3 : tie.Need-shape_of-refs-then-not-is_live
 same-length-3 c = search rules
 
-same-length-4 : tie.Need-same-length-4
+same-length-4 : tie.Need-shape_of-posts-then-not-is_live
 same-length-4 c = search rules
 
-returns-2 : tie.Need-returns-2
-returns-2 c = let s = c.before.before.before.before.before.before.before.before.before.before in
-    let a = accepted s.args.w (words s.args.refs.now s.args.posts.now s.args.stops.now) (sym c.before.before.before.before.refusal-of.ensures ∙ c.before.before.before.if1.false) in
-    sym (remove-dead s.args.w s.args.refs.now s.args.posts.now s.args.stops.now s.requires.0 a.0 a.1 s.args.id (sym c.before.is_live.ensures ∙ not-true _ c.if2.true))
+returns-2 : tie.Need-returns-then-not-is_live
+returns-2 c = let s = c in
+    let a = accepted s.args.w (words s.args.refs.now s.args.posts.now s.args.stops.now) (sym c.refusal_of-r.ensures ∙ c.if-r-ne0.false) in
+    sym (remove-dead s.args.w s.args.refs.now s.args.posts.now s.args.stops.now s.requires.0 a.0 a.1 s.args.id (sym c.is_live.ensures ∙ not-true _ c.if-not-is_live.true))
 
 erase-requires : tie.Need-erase-requires
-erase-requires c κs = let s = c.before.before.before.before.before.before.before.before.before.before.before.before in
-    let a = accepted s.args.w (words s.args.refs.now s.args.posts.now s.args.stops.now) (sym c.before.before.before.before.before.before.refusal-of.ensures ∙ c.before.before.before.before.before.if1.false) in
-    (erasable s.args.w s.args.refs.now s.args.posts.now s.args.stops.now s.requires.0 a.0 a.1 s.args.id (sym c.before.before.before.is_live.ensures ∙ not-false _ c.before.before.if2.false), listed-none _ _ _ _ _ _)
+erase-requires c κs = let s = c in
+    let a = accepted s.args.w (words s.args.refs.now s.args.posts.now s.args.stops.now) (sym c.refusal_of-r.ensures ∙ c.if-r-ne0.false) in
+    (erasable s.args.w s.args.refs.now s.args.posts.now s.args.stops.now s.requires.0 a.0 a.1 s.args.id (sym c.is_live.ensures ∙ not-false _ c.if-not-is_live.false), listed-none _ _ _ _ _ _)
 
-same-length-5 : tie.Need-same-length-5
+same-length-5 : tie.Need-shape_of-refs
 same-length-5 c = search rules
 
-same-length-6 : tie.Need-same-length-6
+same-length-6 : tie.Need-shape_of-posts
 same-length-6 c = search rules
 
-returns-3 : tie.Need-returns-3
-returns-3 c = let s = c.before.before.before.before.before.before.before.before.before.before.before.before.before.before.before.before.before in
-    let a = accepted s.args.w (words s.args.refs.now s.args.posts.now s.args.stops.now) (sym c.before.before.before.before.before.before.before.before.before.before.before.refusal-of.ensures ∙ c.before.before.before.before.before.before.before.before.before.before.if1.false) in
-    let e = remove-live s.args.w s.args.refs.now s.args.posts.now s.args.stops.now s.requires.0 a.0 a.1 s.args.id (sym c.before.before.before.before.before.before.before.before.is_live.ensures ∙ not-false _ c.before.before.before.before.before.before.before.if2.false) in
-    let f = c.before.before.before.before.erase.ensures in
+returns-3 : tie.Need-returns
+returns-3 c = let s = c in
+    let a = accepted s.args.w (words s.args.refs.now s.args.posts.now s.args.stops.now) (sym c.refusal_of-r.ensures ∙ c.if-r-ne0.false) in
+    let e = remove-live s.args.w s.args.refs.now s.args.posts.now s.args.stops.now s.requires.0 a.0 a.1 s.args.id (sym c.is_live.ensures ∙ not-false _ c.if-not-is_live.false) in
+    let f = c.erase.ensures in
     ap₂ (λ (rs ps : List ℕ). (removed true, words rs ps s.args.stops.now)) f.0 f.1 ∙ sym e
 
-pub remove-spec : {M : Type 1} → statement M
-remove-spec =
+pub remove_spec : {M : Type 1} → statement M
+remove_spec =
     tie.close
     (tie.spec
     refusal-of-requires

@@ -3,11 +3,11 @@ use Rattle.rows.proofs.RowWords.{canonical-nan, canonical-same}
 use Rattle.rows.proofs.canonical_rate.Statement.{statement}
 use Rattle.rows.proofs.canonical_rate.Tie as tie
 
-returns : tie.Need-returns
-returns c = canonical-nan c.before.args.rate c.if1.true
+returns : tie.Need-returns-then-rate-gt2139095040
+returns c = canonical-nan c.args.rate c.if-rate-gt2139095040.true
 
-returns-2 : tie.Need-returns-2
-returns-2 c = canonical-same c.before.args.rate c.if1.false
+returns-2 : tie.Need-returns
+returns-2 c = canonical-same c.args.rate c.if-rate-gt2139095040.false
 
-pub canonical-rate-spec : {M : Type 1} → statement M
-canonical-rate-spec = tie.close (tie.spec returns returns-2)
+pub canonical_rate_spec : {M : Type 1} → statement M
+canonical_rate_spec = tie.close (tie.spec returns returns-2)

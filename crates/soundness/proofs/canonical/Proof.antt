@@ -4,11 +4,11 @@ use Rattle.soundness.proofs.Rows.{canonical-yes, canonical-test}
 use Rattle.soundness.proofs.canonical.Statement.{statement}
 use Rattle.soundness.proofs.canonical.Tie as tie
 
-returns : tie.Need-returns
-returns c = sym (canonical-yes c.before.args.rate c.if1.true)
+returns : tie.Need-returns-then-rate-eq-NO_RATE
+returns c = sym (canonical-yes c.args.rate c.if-rate-eq-NO_RATE.true)
 
-returns-2 : tie.Need-returns-2
-returns-2 c = canonical-test c.before.args.rate c.if1.false
+returns-2 : tie.Need-returns
+returns-2 c = canonical-test c.args.rate c.if-rate-eq-NO_RATE.false
 
-pub canonical-spec : {M : Type 1} → statement M
-canonical-spec = tie.close (tie.spec returns returns-2)
+pub canonical_spec : {M : Type 1} → statement M
+canonical_spec = tie.close (tie.spec returns returns-2)

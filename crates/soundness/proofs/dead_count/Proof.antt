@@ -9,49 +9,49 @@ use Rattle.model.proofs.Facts.{is-dead, not_dead}
 use Rattle.soundness.proofs.dead_count.Statement.{statement}
 use Rattle.soundness.proofs.dead_count.Tie as tie
 
-abbrev invariant-loop : tie.invariant-loop
+abbrev invariant-loop : tie.invariant-loop-j
 invariant-loop refs n c₀ j₀ c j = (j ≤ n) × (c ≤ j) × (c ≡ count j (dead_row refs))
 
-abbrev decreases-loop : tie.decreases-loop
+abbrev decreases-loop : tie.decreases-loop-j
 decreases-loop refs n c₀ j₀ c j = n - j
 
-loop-holds : tie.Need-loop-init invariant-loop decreases-loop
+loop-holds : tie.Need-loop-j-init invariant-loop decreases-loop
 loop-holds c = (omega arith, omega arith, sym (count_none _))
 
-row-word-requires : tie.Need-row-word-requires invariant-loop decreases-loop
+row-word-requires : tie.Need-row_word-requires invariant-loop decreases-loop
 row-word-requires c κs = omega arith
 
-add-c : tie.Need-overflow-add-c invariant-loop decreases-loop
+add-c : tie.Need-overflow_add-c invariant-loop decreases-loop
 add-c c = omega arith
 
-add-j : tie.Need-overflow-add-j invariant-loop decreases-loop
+add-j : tie.Need-overflow_add-j invariant-loop decreases-loop
 add-j c = omega arith
 
-loop-less : tie.Need-loop-smaller invariant-loop decreases-loop
+loop-less : tie.Need-loop-j-smaller-then-row_word-eq0 invariant-loop decreases-loop
 loop-less c = omega arith
 
-loop-again : tie.Need-loop-preserved invariant-loop decreases-loop
-loop-again c = let s = c.before.before.before.before.before in
-    let l = c.before.before.before.loop in
-    (omega arith, omega arith, omega (arith, count_yes (dead_row s.args.refs.now) l.j (is-dead s.args.refs.now l.j (sym c.before.row_word.ensures ∙ c.if1.true))))
+loop-again : tie.Need-loop-j-preserved-then-row_word-eq0 invariant-loop decreases-loop
+loop-again c = let s = c in
+    let l = c.loop-j in
+    (omega arith, omega arith, omega (arith, count_yes (dead_row s.args.refs.now) l.j (is-dead s.args.refs.now l.j (sym c.row_word.ensures ∙ c.if-row_word-eq0.true))))
 
-add-j-2 : tie.Need-overflow-add-j-2 invariant-loop decreases-loop
+add-j-2 : tie.Need-overflow_add-j-else-row_word-eq0 invariant-loop decreases-loop
 add-j-2 c = omega arith
 
-loop-less-2 : tie.Need-loop-smaller-2 invariant-loop decreases-loop
+loop-less-2 : tie.Need-loop-j-smaller invariant-loop decreases-loop
 loop-less-2 c = omega arith
 
-loop-again-2 : tie.Need-loop-preserved-2 invariant-loop decreases-loop
-loop-again-2 c = let s = c.before.before.before.before.before in
-    let l = c.before.before.before.loop in
-    (omega arith, omega arith, omega (arith, count_no (dead_row s.args.refs.now) l.j (not_dead s.args.refs.now l.j (λ e. c.if1.false (c.before.row_word.ensures ∙ e)))))
+loop-again-2 : tie.Need-loop-j-preserved invariant-loop decreases-loop
+loop-again-2 c = let s = c in
+    let l = c.loop-j in
+    (omega arith, omega arith, omega (arith, count_no (dead_row s.args.refs.now) l.j (not_dead s.args.refs.now l.j (λ e. c.if-row_word-eq0.false (c.row_word.ensures ∙ e)))))
 
 returns : tie.Need-returns invariant-loop decreases-loop
-returns c = let e : c.before.loop.j ≡ c.before.before.before.args.n = omega arith in
-    rw e at c.before.loop.invariant.2
+returns c = let e : c.loop-j.j ≡ c.args.n = omega arith in
+    rw e at c.loop-j.invariant.2
 
-pub dead-count-spec : {M : Type 1} → statement M
-dead-count-spec =
+pub dead_count_spec : {M : Type 1} → statement M
+dead_count_spec =
     tie.close
     (tie.spec
     invariant-loop

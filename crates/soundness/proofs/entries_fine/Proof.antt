@@ -15,57 +15,57 @@ use Rattle.soundness.proofs.Postings.{Ascended, ascended-none, ascended-more, as
 use Rattle.soundness.proofs.entries_fine.Statement.{statement}
 use Rattle.soundness.proofs.entries_fine.Tie as tie
 
-abbrev invariant-loop : tie.invariant-loop
+abbrev invariant-loop : tie.invariant-loop-i
 invariant-loop refs n posts w p last₀ i₀ last i = (i ≤ p) × Ascended posts w i last × (every i (entry_fine w refs n posts) ≡ true)
 
-abbrev decreases-loop : tie.decreases-loop
+abbrev decreases-loop : tie.decreases-loop-i
 decreases-loop refs n posts w p last₀ i₀ last i = p - i
 
-loop-holds : tie.Need-loop-init invariant-loop decreases-loop
+loop-holds : tie.Need-loop-i-init invariant-loop decreases-loop
 loop-holds c = (omega arith, ascended-none _ _, every-none _)
 
-key-at-requires : tie.Need-key-at-requires invariant-loop decreases-loop
-key-at-requires c κs = let s = c.before.before.before.before in
-    omega (arith, stride s.args.w c.before.loop.i s.args.p (length s.args.posts.now) c.loop-test.true s.requires.1)
+key-at-requires : tie.Need-key_at-key-requires invariant-loop decreases-loop
+key-at-requires c κs = let s = c in
+    omega (arith, stride s.args.w c.loop-i.i s.args.p (length s.args.posts.now) c.loop-i-test.true s.requires.1)
 
-returns : tie.Need-returns invariant-loop decreases-loop
-returns c = let s = c.before.before.before.before.before.before in
-    let l = c.before.before.before.loop in
-    rw (ascended-fail s.args.posts.now s.args.w l.i l.last s.args.p l.invariant.1 c.before.before.loop-test.true (omega (arith, c.before.key-at.ensures, c.if1.true)))
+returns : tie.Need-returns-then-key-last invariant-loop decreases-loop
+returns c = let s = c in
+    let l = c.loop-i in
+    rw (ascended-fail s.args.posts.now s.args.w l.i l.last s.args.p l.invariant.1 c.loop-i-test.true (omega (arith, c.key_at-key.ensures, c.if-key-last.true)))
 
-entry-fine-requires : tie.Need-entry-fine-requires invariant-loop decreases-loop
-entry-fine-requires c κs = let s = c.before.before.before.before.before.before in
-    let l = c.before.before.before.loop in
-    (s.requires.0, stride s.args.w l.i s.args.p (length s.args.posts.now) c.before.before.loop-test.true s.requires.1, s.requires.2)
+entry-fine-requires : tie.Need-entry_fine-requires invariant-loop decreases-loop
+entry-fine-requires c κs = let s = c in
+    let l = c.loop-i in
+    (s.requires.0, stride s.args.w l.i s.args.p (length s.args.posts.now) c.loop-i-test.true s.requires.1, s.requires.2)
 
-returns-2 : tie.Need-returns-2 invariant-loop decreases-loop
-returns-2 c = let s = c.before.before.before.before.before.before.before.before in
-    let l = c.before.before.before.before.before.loop in
-    rw (every-fail (entry_fine s.args.w s.args.refs.now s.args.n s.args.posts.now) s.args.p l.i c.before.before.before.before.loop-test.true (sym c.before.entry-fine.ensures ∙ not-true _ c.if2.true), and-false)
+returns-2 : tie.Need-returns-then-not-entry_fine invariant-loop decreases-loop
+returns-2 c = let s = c in
+    let l = c.loop-i in
+    rw (every-fail (entry_fine s.args.w s.args.refs.now s.args.n s.args.posts.now) s.args.p l.i c.loop-i-test.true (sym c.entry_fine.ensures ∙ c.if-not-entry_fine.true), and-false)
 
-add-i : tie.Need-overflow-add-i invariant-loop decreases-loop
+add-i : tie.Need-overflow_add-i invariant-loop decreases-loop
 add-i c = omega arith
 
-loop-less : tie.Need-loop-smaller invariant-loop decreases-loop
+loop-less : tie.Need-loop-i-smaller invariant-loop decreases-loop
 loop-less c = omega arith
 
-loop-again : tie.Need-loop-preserved invariant-loop decreases-loop
-loop-again c = let s = c.before.before.before.before.before.before.before.before in
-    let l = c.before.before.before.before.before.loop in
-    let k = c.before.before.before.key-at in (
+loop-again : tie.Need-loop-i-preserved invariant-loop decreases-loop
+loop-again c = let s = c in
+    let l = c.loop-i in
+    let k = c.key_at-key in (
       omega arith,
-      rw k.ensures (ascended-more s.args.posts.now s.args.w l.i l.last l.invariant.1 (omega (arith, k.ensures, c.before.before.if1.false))),
-      every_more _ _ l.invariant.2 (sym c.before.entry-fine.ensures ∙ not-false _ c.if2.false),
+      rw k.ensures (ascended-more s.args.posts.now s.args.w l.i l.last l.invariant.1 (omega (arith, k.ensures, c.if-key-last.false))),
+      every_more _ _ l.invariant.2 (sym c.entry_fine.ensures ∙ c.if-not-entry_fine.false),
     )
 
-returns-3 : tie.Need-returns-3 invariant-loop decreases-loop
-returns-3 c = let s = c.before.before.before.before in
-    let e : c.before.loop.i ≡ s.args.p = omega arith in
-    let a : Ascended s.args.posts.now s.args.w s.args.p c.before.loop.last = rw e at c.before.loop.invariant.1 in
-    sym (both_true _ _ a.up (rw e at c.before.loop.invariant.2))
+returns-3 : tie.Need-returns invariant-loop decreases-loop
+returns-3 c = let s = c in
+    let e : c.loop-i.i ≡ s.args.p = omega arith in
+    let a : Ascended s.args.posts.now s.args.w s.args.p c.loop-i.last = rw e at c.loop-i.invariant.1 in
+    sym (both_true _ _ a.up (rw e at c.loop-i.invariant.2))
 
-pub entries-fine-spec : {M : Type 1} → statement M
-entries-fine-spec =
+pub entries_fine_spec : {M : Type 1} → statement M
+entries_fine_spec =
     tie.close
     (tie.spec
     invariant-loop

@@ -16,100 +16,100 @@ use borrow.Author.Rules.{rules}
 use Rattle.soundness.proofs.entries_listed.Statement.{statement}
 use Rattle.soundness.proofs.entries_listed.Tie as tie
 
-abbrev invariant-loop : tie.invariant-loop
+abbrev invariant-loop : tie.invariant-loop-i
 invariant-loop refs n posts w p id list₀ last₀ i₀ own₀ list last i own =
     (i ≤ p) × Ascended posts w i last × (every i (entry_fine w refs n posts) ≡ true) × (own ≤ i) × Noted w p 1 id posts i list own × (length list ≡ length list₀)
 
-abbrev decreases-loop : tie.decreases-loop
+abbrev decreases-loop : tie.decreases-loop-i
 decreases-loop refs n posts w p id list₀ last₀ i₀ own₀ list last i own = p - i
 
 -- in a turn
-module _ (c : tie.In-loop invariant-loop decreases-loop) where
+module _ (c : tie.In-loop-i invariant-loop decreases-loop) where
   abbrev s : tie.Start invariant-loop decreases-loop
   s = c.before.before.before.before.before
 
-  fits : s.args.w * c.before.loop.i + s.args.w ≤ length s.args.posts.now
-  fits = stride s.args.w c.before.loop.i s.args.p (length s.args.posts.now) c.loop-test.true s.pre.1
+  fits : s.args.w * c.loop-i.i + s.args.w ≤ length s.args.posts.now
+  fits = stride s.args.w c.loop-i.i s.args.p (length s.args.posts.now) c.loop-i-test.true s.requires.1
 
-loop-holds : tie.Need-loop-init invariant-loop decreases-loop
+loop-holds : tie.Need-loop-i-init invariant-loop decreases-loop
 loop-holds c = (omega arith, ascended-none _ _, every-none _, omega arith, noted-none _ _ _ _ _ _, refl)
 
-key-at-requires : tie.Need-key-at-requires invariant-loop decreases-loop
+key-at-requires : tie.Need-key_at-key-requires invariant-loop decreases-loop
 key-at-requires c κs = omega (arith, fits c, (s c).requires.0)
 
 unsound-requires : tie.Need-unsound-requires invariant-loop decreases-loop
 unsound-requires c κs = search rules
 
-same_length : tie.Need-same-length invariant-loop decreases-loop
-same_length c = c.before.before.before.before.loop.invariant.5
+same_length : tie.Need-shape_of-list-then-key-last invariant-loop decreases-loop
+same_length c = c.loop-i.invariant.5
 
-returns : tie.Need-returns invariant-loop decreases-loop
+returns : tie.Need-returns-then-key-last invariant-loop decreases-loop
 returns c =
-    let k = c.before.before in
-    let a = (s k.before).args in
-    let l = k.before.before.loop in
-    let e = ascended-fail a.posts.now a.w l.i l.last a.p l.invariant.1 k.before.loop-test.true (omega (arith, k.key-at.ensures, c.before.if1.true)) in
+    let k = c in
+    let a = (s k.before.before.before).args in
+    let l = k.loop-i in
+    let e = ascended-fail a.posts.now a.w l.i l.last a.p l.invariant.1 k.loop-i-test.true (omega (arith, k.key_at-key.ensures, c.if-key-last.true)) in
     record { found = c.unsound.ensures ∙ rw e; noted = λ z. absurd (omega (arith, c.unsound.ensures)) }
 
-entry-fine-requires : tie.Need-entry-fine-requires invariant-loop decreases-loop
+entry-fine-requires : tie.Need-entry_fine-requires invariant-loop decreases-loop
 entry-fine-requires c κs = let t = c.before.before in ((s t).requires.0, fits t, (s t).requires.2)
 
-unsound-requires-2 : tie.Need-unsound-requires-2 invariant-loop decreases-loop
+unsound-requires-2 : tie.Need-unsound-requires-then-not-entry_fine invariant-loop decreases-loop
 unsound-requires-2 c κs = search rules
 
-same-length-2 : tie.Need-same-length-2 invariant-loop decreases-loop
-same-length-2 c = c.before.before.before.before.before.before.loop.invariant.5
+same-length-2 : tie.Need-shape_of-list-then-not-entry_fine invariant-loop decreases-loop
+same-length-2 c = c.loop-i.invariant.5
 
-returns-2 : tie.Need-returns-2 invariant-loop decreases-loop
+returns-2 : tie.Need-returns-then-not-entry_fine invariant-loop decreases-loop
 returns-2 c =
-    let f = c.before.before in
+    let f = c in
     let t = f.before.before.before in
-    let a = (s t).args in
-    let e = every-fail (entry_fine a.w a.refs.now a.n a.posts.now) a.p t.before.loop.i t.loop-test.true (sym f.entry-fine.ensures ∙ not-true _ c.before.if2.true) in
-    record { found = c.unsound2.ensures ∙ rw (e, and-false); noted = λ z. absurd (omega (arith, c.unsound2.ensures)) }
+    let a = (s t.before.before).args in
+    let e = every-fail (entry_fine a.w a.refs.now a.n a.posts.now) a.p t.loop-i.i t.loop-i-test.true (sym f.entry_fine.ensures ∙ c.if-not-entry_fine.true) in
+    record { found = c.unsound-then-not-entry_fine.ensures ∙ rw (e, and-false); noted = λ z. absurd (omega (arith, c.unsound-then-not-entry_fine.ensures)) }
 
-note-requires : tie.Need-note-requires invariant-loop decreases-loop
+note-requires : tie.Need-note-own-requires invariant-loop decreases-loop
 note-requires c κs =
     let t = c.before.before.before.before.before in
-    (omega (arith, (s t).requires.0), omega (arith, fits t, (s t).requires.0), t.before.loop.invariant.3, omega (arith, t.loop-test.true, (s t).requires.3))
+    (omega (arith, (s t).requires.0), omega (arith, fits t, (s t).requires.0), t.loop-i.invariant.3, omega (arith, t.loop-i-test.true, (s t).requires.3))
 
-add-i : tie.Need-overflow-add-i invariant-loop decreases-loop
+add-i : tie.Need-overflow_add-i invariant-loop decreases-loop
 add-i c = omega arith
 
-loop-less : tie.Need-loop-smaller invariant-loop decreases-loop
+loop-less : tie.Need-loop-i-smaller invariant-loop decreases-loop
 loop-less c = omega arith
 
-loop-again : tie.Need-loop-preserved invariant-loop decreases-loop
+loop-again : tie.Need-loop-i-preserved invariant-loop decreases-loop
 loop-again c =
-    let no = c.before.before in
-    let el = no.before.before in
-    let f = el.before in
-    let k = f.before.before in
+    let no = c in
+    let el = no in
+    let f = el in
+    let k = f in
     let t = k.before in
-    let a = (s t).args in
-    let l = t.before.loop in (
+    let a = (s t.before.before.before.before.before.before.before).args in
+    let l = t.loop-i in (
       omega arith,
-      rw k.key-at.ensures (ascended-more a.posts.now a.w l.i l.last l.invariant.1 (omega (arith, k.key-at.ensures, f.before.if1.false))),
-      every_more _ _ l.invariant.2 (sym f.entry-fine.ensures ∙ not-false _ el.if2.false),
-      no.note.ensures.0,
-      no.note.ensures.1 a.p t.loop-test.true l.invariant.4,
-      no.note.auto.0 ∙ l.invariant.5,
+      rw k.key_at-key.ensures (ascended-more a.posts.now a.w l.i l.last l.invariant.1 (omega (arith, k.key_at-key.ensures, f.if-key-last.false))),
+      every_more _ _ l.invariant.2 (sym f.entry_fine.ensures ∙ el.if-not-entry_fine.false),
+      no.note-own.ensures.0,
+      no.note-own.ensures.1 a.p t.loop-i-test.true l.invariant.4,
+      no.note-own.auto.list ∙ l.invariant.5,
     )
 
-same-length-3 : tie.Need-same-length-3 invariant-loop decreases-loop
-same-length-3 c = c.before.loop.invariant.5
+same-length-3 : tie.Need-shape_of-list invariant-loop decreases-loop
+same-length-3 c = c.loop-i.invariant.5
 
-returns-3 : tie.Need-returns-3 invariant-loop decreases-loop
+returns-3 : tie.Need-returns invariant-loop decreases-loop
 returns-3 c =
-    let a = c.before.before.before.before.before.args in
-    let l = c.before.loop in
+    let a = c.args in
+    let l = c.loop-i in
     let e : l.i ≡ a.p = omega arith in
     let up : Ascended a.posts.now a.w a.p l.last = rw e at l.invariant.1 in
     let d : Noted a.w a.p 1 a.id a.posts.now a.p l.list l.own = rw e at l.invariant.4 in
     record { found = rw (up.up, rw e at l.invariant.2); noted = λ z. d }
 
-pub entries-listed-spec : {M : Type 1} → statement M
-entries-listed-spec =
+pub entries_listed_spec : {M : Type 1} → statement M
+entries_listed_spec =
     tie.close
     (tie.spec
     invariant-loop

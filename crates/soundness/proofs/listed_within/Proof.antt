@@ -13,104 +13,104 @@ use Rattle.soundness.proofs.listed_within.Statement.{statement}
 use Rattle.soundness.proofs.listed_within.Tie as tie
 
 -- once the rows are looked at
-module _ (c : tie.After-rows-sound) where
+module _ (c : tie.After-rows_sound) where
   abbrev s : tie.Start
   s = c.before.before.before.before.before
 
 -- where they are sound, once the postings are
-module _ (c : tie.After-entries-met) where
-  abbrev rows : tie.After-rows-sound
+module _ (c : tie.After-entries_met-r) where
+  abbrev rows : tie.After-rows_sound
   rows = c.before.before.before
 
   rows-yes : rows_sound (s rows).args.w (s rows).args.refs.now (s rows).args.c.rows (s rows).args.c.vacant ≡ true
-  rows-yes = sym rows.rows-sound.ensures ∙ not-false _ c.before.before.if1.false
+  rows-yes = sym rows.rows_sound.ensures ∙ c.if-not-rows_sound.false
 
 -- where these are sound
-module _ (c : tie.Else2) where
-  abbrev met : tie.After-entries-met
+module _ (c : tie.Else-r-ne0) where
+  abbrev met : tie.After-entries_met-r
   met = c.before.before.before.before
 
   entries-yes : keys_ascend (s (rows met)).args.posts.now (s (rows met)).args.w (s (rows met)).args.c.postings
       && every (s (rows met)).args.c.postings (entry_fine (s (rows met)).args.w (s (rows met)).args.refs.now (s (rows met)).args.c.rows (s (rows met)).args.posts.now) ≡ true
-  entries-yes = number-none _ met.entries-met.ensures.found c.if2.false
+  entries-yes = number-none _ met.entries_met-r.ensures.found c.if-r-ne0.false
 
-rows-sound-requires : tie.Need-rows-sound-requires
-rows-sound-requires c κs = let o = c.before.before.before.before in (o.requires.many, o.requires.vacant, o.requires.rows)
+rows-sound-requires : tie.Need-rows_sound-requires
+rows-sound-requires c κs = let o = c in (o.requires.many, o.requires.vacant, o.requires.rows)
 
 unsound-requires : tie.Need-unsound-requires
 unsound-requires c κs = search rules
 
-returns : tie.Need-returns
+returns : tie.Need-returns-then-not-rows_sound
 returns c =
-    (c.unsound.ensures ∙ rw (sym c.before.before.rows-sound.ensures ∙ not-true _ c.before.if1.true), λ z. absurd (omega (arith, c.unsound.ensures)))
+    (c.unsound.ensures ∙ rw (sym c.rows_sound.ensures ∙ c.if-not-rows_sound.true), λ z. absurd (omega (arith, c.unsound.ensures)))
 
-entries-met-requires : tie.Need-entries-met-requires
-entries-met-requires c κs = let o = s c.before.before in (o.pre.wide, o.pre.postings, o.pre.rows, omega (arith, o.pre.few))
+entries-met-requires : tie.Need-entries_met-r-requires
+entries-met-requires c κs = let o = s c.before.before in (o.requires.wide, o.requires.postings, o.requires.rows, omega (arith, o.requires.few))
 
-same_length : tie.Need-same-length
+same_length : tie.Need-shape_of-list-then-r-ne0
 same_length c = search rules
 
-returns-2 : tie.Need-returns-2
+returns-2 : tie.Need-returns-then-r-ne0
 unfolding postings_sound
 returns-2 c =
     let m = c.before.before.before.before in
-    let e = m.entries-met.ensures.found in
+    let e = m.entries_met-r.ensures.found in
     let o = (s (rows m)).args in
-    let n : keys_ascend o.posts.now o.w o.c.postings && every o.c.postings (entry_fine o.w o.refs.now o.c.rows o.posts.now) ≡ false = number-some _ e c.if2.true in
-    (e ∙ rw (rows-yes m, n), λ z. absurd (c.if2.true z))
+    let n : keys_ascend o.posts.now o.w o.c.postings && every o.c.postings (entry_fine o.w o.refs.now o.c.rows o.posts.now) ≡ false = number-some _ e c.if-r-ne0.true in
+    (e ∙ rw (rows-yes m, n), λ z. absurd (c.if-r-ne0.true z))
 
-mul-is-zero-from : tie.Need-overflow-mul-is-zero-from
-mul-is-zero-from c = let o = s (rows (met c)) in omega (arith, o.pre.postings, o.good)
+mul-is-zero-from : tie.Need-overflow_mul-w
+mul-is-zero-from c = let o = s (rows (met c)) in omega (arith, o.requires.postings, o.well_formed)
 
-is-zero-from-requires : tie.Need-is-zero-from-requires
-is-zero-from-requires c κs = (s (rows (met c))).pre.postings
+is-zero-from-requires : tie.Need-is_zero_from-requires
+is-zero-from-requires c κs = (s (rows (met c))).requires.postings
 
-unsound-requires-2 : tie.Need-unsound-requires-2
+unsound-requires-2 : tie.Need-unsound-requires-then-not-is_zero_from
 unsound-requires-2 c κs = search rules
 
-same-length-2 : tie.Need-same-length-2
+same-length-2 : tie.Need-shape_of-list-then-not-is_zero_from
 same-length-2 c = search rules
 
-returns-3 : tie.Need-returns-3
+returns-3 : tie.Need-returns-then-not-is_zero_from
 unfolding postings_sound
 returns-3 c =
-    let z = c.before.before in
-    let m = met z.before in
-    (c.unsound2.ensures ∙ rw (rows-yes m, entries-yes z.before, sym z.is-zero-from.ensures ∙ not-true _ c.before.if3.true), λ z. absurd (omega (arith, c.unsound2.ensures)))
+    let z = c in
+    let m = met z.before.before.before in
+    (c.unsound-then-not-is_zero_from.ensures ∙ rw (rows-yes m, entries-yes z.before.before.before, sym z.is_zero_from.ensures ∙ c.if-not-is_zero_from.true), λ z. absurd (omega (arith, c.unsound-then-not-is_zero_from.ensures)))
 
-stopped-sound-requires : tie.Need-stopped-sound-requires
+stopped-sound-requires : tie.Need-stopped_sound-requires
 stopped-sound-requires c κs =
     let e = c.before.before in
     let o = s (rows (met e)) in
-    ((o.pre.wide, o.pre.postings, o.pre.stopped), and_left (keys_ascend o.args.posts.now o.args.w o.args.c.postings) _ (entries-yes e))
+    ((o.requires.wide, o.requires.postings, o.requires.stopped), and_left (keys_ascend o.args.posts.now o.args.w o.args.c.postings) _ (entries-yes e))
 
-unsound-requires-3 : tie.Need-unsound-requires-3
+unsound-requires-3 : tie.Need-unsound-requires-then-not-stopped_sound
 unsound-requires-3 c κs = search rules
 
-same-length-3 : tie.Need-same-length-3
+same-length-3 : tie.Need-shape_of-list-then-not-stopped_sound
 same-length-3 c = search rules
 
-returns-4 : tie.Need-returns-4
+returns-4 : tie.Need-returns-then-not-stopped_sound
 unfolding postings_sound
 returns-4 c =
-    let t = c.before.before in
-    let z = t.before.before in
-    let m = met z.before in
-    (c.unsound3.ensures ∙ rw (rows-yes m, entries-yes z.before, sym z.is-zero-from.ensures ∙ not-false _ t.before.if3.false, sym t.stopped-sound.ensures ∙ not-true _ c.before.if4.true), λ z. absurd (omega (arith, c.unsound3.ensures)))
+    let t = c in
+    let z = t in
+    let m = met z.before.before.before.before.before in
+    (c.unsound-then-not-stopped_sound.ensures ∙ rw (rows-yes m, entries-yes z.before.before.before.before.before, sym z.is_zero_from.ensures ∙ t.if-not-is_zero_from.false, sym t.stopped_sound.ensures ∙ c.if-not-stopped_sound.true), λ z. absurd (omega (arith, c.unsound-then-not-stopped_sound.ensures)))
 
-same-length-4 : tie.Need-same-length-4
+same-length-4 : tie.Need-shape_of-list
 same-length-4 c = search rules
 
-returns-5 : tie.Need-returns-5
+returns-5 : tie.Need-returns
 unfolding postings_sound
 returns-5 c =
-    let t = c.before in
-    let z = t.before.before in
-    let m = met z.before in
-    (z.before.if2.false ∙ rw (rows-yes m, entries-yes z.before, sym z.is-zero-from.ensures ∙ not-false _ t.before.if3.false, sym t.stopped-sound.ensures ∙ not-false _ c.if4.false), m.entries-met.ensures.noted)
+    let t = c in
+    let z = t in
+    let m = met z.before.before.before.before in
+    (z.if-r-ne0.false ∙ rw (rows-yes m, entries-yes z.before.before.before.before, sym z.is_zero_from.ensures ∙ t.if-not-is_zero_from.false, sym t.stopped_sound.ensures ∙ c.if-not-stopped_sound.false), m.entries_met-r.ensures.noted)
 
-pub listed-within-spec : {M : Type 1} → statement M
-listed-within-spec =
+pub listed_within_spec : {M : Type 1} → statement M
+listed_within_spec =
     tie.close
     (tie.spec
     rows-sound-requires

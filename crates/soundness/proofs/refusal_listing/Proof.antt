@@ -12,7 +12,7 @@ use Rattle.soundness.proofs.refusal_listing.Statement.{statement}
 use Rattle.soundness.proofs.refusal_listing.Tie as tie
 
 -- where the lengths are listed
-module _ (c : tie.Else1) where
+module _ (c : tie.Else-not-is_listed) where
   abbrev s : tie.Start
   s = c.before.before.before.before.before.before
 
@@ -20,65 +20,65 @@ module _ (c : tie.Else1) where
   m = words s.args.refs.now s.args.posts.now s.args.stops.now
 
   listed-yes : slices_listed s.args.w m ≡ true
-  listed-yes = sym c.before.is-listed.ensures ∙ not-false _ c.if1.false
+  listed-yes = sym c.is_listed.ensures ∙ c.if-not-is_listed.false
 
-is-listed-requires : tie.Need-is-listed-requires
+is-listed-requires : tie.Need-is_listed-requires
 is-listed-requires c κs = search rules
 
-returns : tie.Need-returns
+returns : tie.Need-returns-then-not-is_listed
 returns c =
-    let o = c.before.before.before.before.before.before in
-    (sym (refusal-unlisted o.args.w (words o.args.refs.now o.args.posts.now o.args.stops.now) (sym c.before.is-listed.ensures ∙ not-true _ c.if1.true)), λ z. absurd (omega arith))
+    let o = c in
+    (sym (refusal-unlisted o.args.w (words o.args.refs.now o.args.posts.now o.args.stops.now) (sym c.is_listed.ensures ∙ c.if-not-is_listed.true)), λ z. absurd (omega arith))
 
-header-requires : tie.Need-header-requires
-header-requires c κs = let o = s c in header-there o.args.w o.args.refs.now o.args.posts.now o.args.stops.now o.pre (listed-yes c)
+header-requires : tie.Need-header-c-requires
+header-requires c κs = let o = s c in header-there o.args.w o.args.refs.now o.args.posts.now o.args.stops.now o.requires (listed-yes c)
 
-sub-counts-fit : tie.Need-overflow-sub-counts-fit
-sub-counts-fit c = let o = s c.before in omega (arith, header-there o.args.w o.args.refs.now o.args.posts.now o.args.stops.now o.pre (listed-yes c.before))
+sub-counts-fit : tie.Need-overflow_sub-refs
+sub-counts-fit c = let o = s c.before in omega (arith, header-there o.args.w o.args.refs.now o.args.posts.now o.args.stops.now o.requires (listed-yes c.before))
 
-div-counts-fit : tie.Need-nonzero-div-counts-fit
+div-counts-fit : tie.Need-nonzero_div-posts
 div-counts-fit c = search rules
 
-counts-fit-requires : tie.Need-counts-fit-requires
+counts-fit-requires : tie.Need-counts_fit-requires
 counts-fit-requires c κs = search rules
 
 unsound-requires : tie.Need-unsound-requires
 unsound-requires c κs = search rules
 
-returns-2 : tie.Need-returns-2
+returns-2 : tie.Need-returns-then-not-counts_fit
 returns-2 c =
-    let f = c.before.before in
-    let h = f.before.header.ensures in
+    let f = c in
+    let h = f.header-c.ensures in
     let e = f.before.before in
-    let o = s e in
-    let n = counts-no o.args.w o.args.refs.now o.args.posts.now o.args.stops.now o.pre (listed-yes e) h.rows h.vacant h.postings h.stopped (sym f.counts-fit.ensures ∙ not-true _ c.before.if2.true) in
-    (c.unsound.ensures ∙ sym (refusal-unsound o.args.w (m e) (listed-yes e) (sym n)), λ z. absurd (omega (arith, c.unsound.ensures)))
+    let o = s e.before.before in
+    let n = counts-no o.args.w o.args.refs.now o.args.posts.now o.args.stops.now o.requires (listed-yes e.before.before) h.rows h.vacant h.postings h.stopped (sym f.counts_fit.ensures ∙ c.if-not-counts_fit.true) in
+    (c.unsound.ensures ∙ sym (refusal-unsound o.args.w (m e.before.before) (listed-yes e.before.before) (sym n)), λ z. absurd (omega (arith, c.unsound.ensures)))
 
-listed-within-requires : tie.Need-listed-within-requires
+listed-within-requires : tie.Need-listed_within-requires
 listed-within-requires c κs =
-    let f = c.before.before in
-    let h = f.before.header.ensures in
+    let f = c in
+    let h = f.header-c.ensures in
     let e = f.before.before in
-    let o = s e in
-    counts-room o.args.w o.args.refs.now o.args.posts.now o.args.stops.now o.pre (listed-yes e) h.rows h.vacant h.postings h.stopped (sym f.counts-fit.ensures ∙ not-false _ c.before.if2.false)
+    let o = s e.before.before in
+    counts-room o.args.w o.args.refs.now o.args.posts.now o.args.stops.now o.requires (listed-yes e.before.before) h.rows h.vacant h.postings h.stopped (sym f.counts_fit.ensures ∙ c.if-not-counts_fit.false)
 
-same_length : tie.Need-same-length
+same_length : tie.Need-shape_of-list
 same_length c = search rules
 
-returns-3 : tie.Need-returns-3
+returns-3 : tie.Need-returns
 returns-3 c =
-    let l = c.before.before in
-    let f = l.before.before.before in
-    let h = f.before.header.ensures in
+    let l = c in
+    let f = l in
+    let h = f.header-c.ensures in
     let e = f.before.before in
-    let o = s e in (
-      l.listed-within.ensures.0
-          ∙ refusal-number o.args.w (m e) (listed-yes e) _ (counts-yes o.args.w o.args.refs.now o.args.posts.now o.args.stops.now o.pre (listed-yes e) h.rows h.vacant h.postings h.stopped (sym f.counts-fit.ensures ∙ not-false _ l.before.before.if2.false) _ refl),
-      rw h.postings at l.listed-within.ensures.1,
+    let o = s e.before.before.before.before.before in (
+      l.listed_within.ensures.0
+          ∙ refusal-number o.args.w (m e.before.before.before.before.before) (listed-yes e.before.before.before.before.before) _ (counts-yes o.args.w o.args.refs.now o.args.posts.now o.args.stops.now o.requires (listed-yes e.before.before.before.before.before) h.rows h.vacant h.postings h.stopped (sym f.counts_fit.ensures ∙ l.if-not-counts_fit.false) _ refl),
+      rw h.postings at l.listed_within.ensures.1,
     )
 
-pub refusal-listing-spec : {M : Type 1} → statement M
-refusal-listing-spec =
+pub refusal_listing_spec : {M : Type 1} → statement M
+refusal_listing_spec =
     tie.close
     (tie.spec
     is-listed-requires

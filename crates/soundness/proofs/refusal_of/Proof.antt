@@ -8,25 +8,25 @@ use borrow.Author.Rules.{rules}
 use Rattle.soundness.proofs.refusal_of.Statement.{statement}
 use Rattle.soundness.proofs.refusal_of.Tie as tie
 
-is-listed-requires : tie.Need-is-listed-requires
+is-listed-requires : tie.Need-is_listed-requires
 is-listed-requires c κs = search rules
 
-returns : tie.Need-returns
-returns c = let s = c.before.before.before.before.before in
-    sym (refusal-unlisted s.args.w (words s.args.refs.now s.args.posts.now s.args.stops.now) (sym c.before.is-listed.ensures ∙ not-true _ c.if1.true))
+returns : tie.Need-returns-then-not-is_listed
+returns c = let s = c in
+    sym (refusal-unlisted s.args.w (words s.args.refs.now s.args.posts.now s.args.stops.now) (sym c.is_listed.ensures ∙ c.if-not-is_listed.true))
 
-words-sound-requires : tie.Need-words-sound-requires
-words-sound-requires c κs = let s = c.before.before.before.before.before in
-    (s.requires, sym c.before.is-listed.ensures ∙ not-false _ c.if1.false)
+words-sound-requires : tie.Need-words_sound-requires
+words-sound-requires c κs = let s = c in
+    (s.requires, sym c.is_listed.ensures ∙ c.if-not-is_listed.false)
 
-returns-2 : tie.Need-returns-2
-returns-2 c = let s = c.before.before.before.before.before.before.before in
-    sym (refusal-unsound s.args.w (words s.args.refs.now s.args.posts.now s.args.stops.now) (sym c.before.before.before.is-listed.ensures ∙ not-false _ c.before.before.if1.false) (sym c.before.words-sound.ensures ∙ not-true _ c.if2.true))
+returns-2 : tie.Need-returns-then-not-words_sound
+returns-2 c = let s = c in
+    sym (refusal-unsound s.args.w (words s.args.refs.now s.args.posts.now s.args.stops.now) (sym c.is_listed.ensures ∙ c.if-not-is_listed.false) (sym c.words_sound.ensures ∙ c.if-not-words_sound.true))
 
-returns-3 : tie.Need-returns-3
-returns-3 c = let s = c.before.before.before.before.before.before.before in
-    sym (refusal-none s.args.w (words s.args.refs.now s.args.posts.now s.args.stops.now) (sym c.before.before.before.is-listed.ensures ∙ not-false _ c.before.before.if1.false) (sym c.before.words-sound.ensures ∙ not-false _ c.if2.false))
+returns-3 : tie.Need-returns
+returns-3 c = let s = c in
+    sym (refusal-none s.args.w (words s.args.refs.now s.args.posts.now s.args.stops.now) (sym c.is_listed.ensures ∙ c.if-not-is_listed.false) (sym c.words_sound.ensures ∙ c.if-not-words_sound.false))
 
-pub refusal-of-spec : {M : Type 1} → statement M
-refusal-of-spec =
+pub refusal_of_spec : {M : Type 1} → statement M
+refusal_of_spec =
     tie.close (tie.spec is-listed-requires returns words-sound-requires returns-2 returns-3)

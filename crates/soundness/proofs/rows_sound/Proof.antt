@@ -8,49 +8,49 @@ use borrow.Author.Rules.{rules}
 use Rattle.soundness.proofs.rows_sound.Statement.{statement}
 use Rattle.soundness.proofs.rows_sound.Tie as tie
 
-rows-fine-requires : tie.Need-rows-fine-requires
+rows-fine-requires : tie.Need-rows_fine-requires
 rows-fine-requires c κs = search rules
 
-returns : tie.Need-returns
+returns : tie.Need-returns-then-not-rows_fine
 unfolding rows_sound
-returns c = rw (sym c.before.rows-fine.ensures ∙ not-true _ c.if1.true)
+returns c = rw (sym c.rows_fine.ensures ∙ c.if-not-rows_fine.true)
 
-dead-count-requires : tie.Need-dead-count-requires
+dead-count-requires : tie.Need-dead_count-requires
 dead-count-requires c κs = search rules
 
-returns-2 : tie.Need-returns-2
+returns-2 : tie.Need-returns-then-dead_count-v
 unfolding rows_sound
-returns-2 c = rw (sym c.before.before.before.rows-fine.ensures ∙ not-false _ c.before.before.if1.false, ne_eqb _ _ (λ e. c.if2.true (c.before.dead-count.ensures ∙ e)))
+returns-2 c = rw (sym c.rows_fine.ensures ∙ c.if-not-rows_fine.false, ne_eqb _ _ (λ e. c.if-dead_count-v.true (c.dead_count.ensures ∙ e)))
 
-vacants-fine-requires : tie.Need-vacants-fine-requires
+vacants-fine-requires : tie.Need-vacants_fine-requires
 vacants-fine-requires c κs = search rules
 
-returns-3 : tie.Need-returns-3
+returns-3 : tie.Need-returns-then-not-vacants_fine
 unfolding rows_sound
-returns-3 c = rw (sym c.before.before.before.before.before.rows-fine.ensures ∙ not-false _ c.before.before.before.before.if1.false, eq-eqb _ _ (sym c.before.before.before.dead-count.ensures ∙ c.before.before.if2.false), sym c.before.vacants-fine.ensures ∙ not-true _ c.if3.true)
+returns-3 c = rw (sym c.rows_fine.ensures ∙ c.if-not-rows_fine.false, eq-eqb _ _ (sym c.dead_count.ensures ∙ c.if-dead_count-v.false), sym c.vacants_fine.ensures ∙ c.if-not-vacants_fine.true)
 
-entries-unused-requires : tie.Need-entries-unused-requires
+entries-unused-requires : tie.Need-entries_unused-requires
 entries-unused-requires c κs = search rules
 
-returns-4 : tie.Need-returns-4
+returns-4 : tie.Need-returns-then-not-entries_unused
 unfolding rows_sound
-returns-4 c = rw (sym c.before.before.before.before.before.before.before.rows-fine.ensures ∙ not-false _ c.before.before.before.before.before.before.if1.false, eq-eqb _ _ (sym c.before.before.before.before.before.dead-count.ensures ∙ c.before.before.before.before.if2.false), sym c.before.before.before.vacants-fine.ensures ∙ not-false _ c.before.before.if3.false, sym c.before.entries-unused.ensures ∙ not-true _ c.if4.true)
+returns-4 c = rw (sym c.rows_fine.ensures ∙ c.if-not-rows_fine.false, eq-eqb _ _ (sym c.dead_count.ensures ∙ c.if-dead_count-v.false), sym c.vacants_fine.ensures ∙ c.if-not-vacants_fine.false, sym c.entries_unused.ensures ∙ c.if-not-entries_unused.true)
 
-mul-is-zero-from : tie.Need-overflow-mul-is-zero-from
+mul-is-zero-from : tie.Need-overflow_mul-n
 mul-is-zero-from c = search rules
 
-add-is-zero-from : tie.Need-overflow-add-is-zero-from
+add-is-zero-from : tie.Need-overflow_add-n
 add-is-zero-from c = search rules
 
-is-zero-from-requires : tie.Need-is-zero-from-requires
+is-zero-from-requires : tie.Need-is_zero_from-requires
 is-zero-from-requires c κs = search rules
 
-returns-5 : tie.Need-returns-5
+returns-5 : tie.Need-returns
 unfolding rows_sound
-returns-5 c = rw (sym c.before.before.before.before.before.before.before.before.rows-fine.ensures ∙ not-false _ c.before.before.before.before.before.before.before.if1.false, eq-eqb _ _ (sym c.before.before.before.before.before.before.dead-count.ensures ∙ c.before.before.before.before.before.if2.false), sym c.before.before.before.before.vacants-fine.ensures ∙ not-false _ c.before.before.before.if3.false, sym c.before.before.entries-unused.ensures ∙ not-false _ c.before.if4.false) c.is-zero-from.ensures
+returns-5 c = rw (sym c.rows_fine.ensures ∙ c.if-not-rows_fine.false, eq-eqb _ _ (sym c.dead_count.ensures ∙ c.if-dead_count-v.false), sym c.vacants_fine.ensures ∙ c.if-not-vacants_fine.false, sym c.entries_unused.ensures ∙ c.if-not-entries_unused.false) c.is_zero_from.ensures
 
-pub rows-sound-spec : {M : Type 1} → statement M
-rows-sound-spec =
+pub rows_sound_spec : {M : Type 1} → statement M
+rows_sound_spec =
     tie.close
     (tie.spec
     rows-fine-requires

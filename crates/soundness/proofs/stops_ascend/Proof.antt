@@ -11,47 +11,47 @@ use Rattle.soundness.proofs.Stopped.{step-yes, step-no}
 use Rattle.soundness.proofs.stops_ascend.Statement.{statement}
 use Rattle.soundness.proofs.stops_ascend.Tie as tie
 
-abbrev invariant-loop : tie.invariant-loop
+abbrev invariant-loop : tie.invariant-loop-i
 invariant-loop stops k i₀ i = (i ≤ k - 1) × (every i (stopped_step stops) ≡ true)
 
-abbrev decreases-loop : tie.decreases-loop
+abbrev decreases-loop : tie.decreases-loop-i
 decreases-loop stops k i₀ i = k - i
 
-loop-holds : tie.Need-loop-init invariant-loop decreases-loop
+loop-holds : tie.Need-loop-i-init invariant-loop decreases-loop
 loop-holds c = (omega arith, every-none _)
 
-add-loop : tie.Need-overflow-add-loop invariant-loop decreases-loop
+add-loop : tie.Need-overflow_add-i invariant-loop decreases-loop
 add-loop c = omega arith
 
-add_at : tie.Need-overflow-add-at invariant-loop decreases-loop
+add_at : tie.Need-overflow_add-i-in-loop-i invariant-loop decreases-loop
 add_at c = omega arith
 
 at-requires : tie.Need-at-requires invariant-loop decreases-loop
 at-requires c κs = omega arith
 
-at-requires-2 : tie.Need-at-requires-2 invariant-loop decreases-loop
+at-requires-2 : tie.Need-at-requires-in-loop-i invariant-loop decreases-loop
 at-requires-2 c κs = omega arith
 
-returns : tie.Need-returns invariant-loop decreases-loop
+returns : tie.Need-returns-then-at invariant-loop decreases-loop
 unfolding stops_ascend
-returns c = sym (every-fail _ _ c.before.before.before.before.loop.i (omega arith) (step-no _ _ (omega arith)))
+returns c = sym (every-fail _ _ c.loop-i.i (omega arith) (step-no _ _ (omega arith)))
 
-add-i : tie.Need-overflow-add-i invariant-loop decreases-loop
+add-i : tie.Need-overflow_add-i-in-loop-i-2 invariant-loop decreases-loop
 add-i c = omega arith
 
-loop-less : tie.Need-loop-smaller invariant-loop decreases-loop
+loop-less : tie.Need-loop-i-smaller invariant-loop decreases-loop
 loop-less c = omega arith
 
-loop-again : tie.Need-loop-preserved invariant-loop decreases-loop
-loop-again c = (omega arith, every_more _ _ c.before.before.before.before.loop.invariant.1 (step-yes _ _ (omega arith)))
+loop-again : tie.Need-loop-i-preserved invariant-loop decreases-loop
+loop-again c = (omega arith, every_more _ _ c.loop-i.invariant.1 (step-yes _ _ (omega arith)))
 
-returns-2 : tie.Need-returns-2 invariant-loop decreases-loop
+returns-2 : tie.Need-returns invariant-loop decreases-loop
 unfolding stops_ascend
-returns-2 c = let e : c.before.loop.i ≡ c.before.before.before.args.k - 1 = omega arith in
-    sym (rw e at c.before.loop.invariant.1)
+returns-2 c = let e : c.loop-i.i ≡ c.args.k - 1 = omega arith in
+    sym (rw e at c.loop-i.invariant.1)
 
-pub stops-ascend-spec : {M : Type 1} → statement M
-stops-ascend-spec =
+pub stops_ascend_spec : {M : Type 1} → statement M
+stops_ascend_spec =
     tie.close
     (tie.spec
     invariant-loop

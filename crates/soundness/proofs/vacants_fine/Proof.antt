@@ -14,67 +14,67 @@ use borrow.Author.Rules.{rules}
 use Rattle.soundness.proofs.vacants_fine.Statement.{statement}
 use Rattle.soundness.proofs.vacants_fine.Tie as tie
 
-abbrev invariant-loop : tie.invariant-loop
+abbrev invariant-loop : tie.invariant-loop-j
 invariant-loop refs n v marks₀ j₀ marks j = (j ≤ v) × (every j (vacant_entry refs n) ≡ true) × Marked refs marks j
 
-abbrev decreases-loop : tie.decreases-loop
+abbrev decreases-loop : tie.decreases-loop-j
 decreases-loop refs n v marks₀ j₀ marks j = v - j
 
-x-is : (c : tie.After-size invariant-loop decreases-loop) → c.size.result ≡ row_word c.before.before.before.before.before.args.refs.now c.before.before.before.loop.j at_vacant
-x-is c = c.size.ensures ∙ c.before.row_word.ensures
+x-is : (c : tie.After-size-x invariant-loop decreases-loop) → c.size-x.result ≡ row_word c.args.refs.now c.loop-j.j at_vacant
+x-is c = c.size-x.ensures ∙ c.row_word.ensures
 
-loop-holds : tie.Need-loop-init invariant-loop decreases-loop
+loop-holds : tie.Need-loop-j-init invariant-loop decreases-loop
 loop-holds c = (omega arith, every-none _, marked-none _)
 
-row-word-requires : tie.Need-row-word-requires invariant-loop decreases-loop
+row-word-requires : tie.Need-row_word-requires invariant-loop decreases-loop
 row-word-requires c κs = omega arith
 
-size-requires : tie.Need-size-requires invariant-loop decreases-loop
+size-requires : tie.Need-size-x-requires invariant-loop decreases-loop
 size-requires c κs = search rules
 
-returns : tie.Need-returns invariant-loop decreases-loop
-returns c = let l = c.before.before.before.before.loop in
-    sym (every-fail _ _ l.j (omega arith) (vacant-out _ _ _ (x-is c.before) c.if1.true))
+returns : tie.Need-returns-then-n-x invariant-loop decreases-loop
+returns c = let l = c.loop-j in
+    sym (every-fail _ _ l.j (omega arith) (vacant-out _ _ _ (x-is c.before) c.if-n-x.true))
 
-row-word-requires-2 : tie.Need-row-word-requires-2 invariant-loop decreases-loop
+row-word-requires-2 : tie.Need-row_word-requires-in-loop-j invariant-loop decreases-loop
 row-word-requires-2 c κs = omega arith
 
-returns-2 : tie.Need-returns-2 invariant-loop decreases-loop
-returns-2 c = let l = c.before.before.before.before.before.before.loop in
-    sym (every-fail _ _ l.j (omega arith) (vacant-live _ _ _ (x-is c.before.before.before) c.before.before.if1.false (λ e. c.if2.true (c.before.row-word2.ensures ∙ e))))
+returns-2 : tie.Need-returns-then-row_word-ne0 invariant-loop decreases-loop
+returns-2 c = let l = c.loop-j in
+    sym (every-fail _ _ l.j (omega arith) (vacant-live _ _ _ (x-is c.before.before.before) c.if-n-x.false (λ e. c.if-row_word-ne0.true (c.row_word-in-loop-j.ensures ∙ e))))
 
-array-read-if3 : tie.Need-array-read-if3 invariant-loop decreases-loop
-array-read-if3 c = omega (arith, c.before.before.before.before.before.before.loop.invariant.2.len)
+array-read-if3 : tie.Need-bounds-marks-x invariant-loop decreases-loop
+array-read-if3 c = omega (arith, c.loop-j.invariant.2.len)
 
-returns-3 : tie.Need-returns-3 invariant-loop decreases-loop
-returns-3 c = let l = c.before.before.before.before.before.before.before.loop in
-    sym (every-fail _ _ l.j (omega arith) (vacant-named _ _ _ (x-is c.before.before.before.before) false c.before.before.before.if1.false (sym c.before.before.row-word2.ensures ∙ c.before.if2.false)
-    (marked-taken _ l.marks _ _ l.invariant.2 (omega arith) c.if3.true)))
+returns-3 : tie.Need-returns-then-marks-x-ne0 invariant-loop decreases-loop
+returns-3 c = let l = c.loop-j in
+    sym (every-fail _ _ l.j (omega arith) (vacant-named _ _ _ (x-is c.before.before.before.before) false c.if-n-x.false (sym c.row_word-in-loop-j.ensures ∙ c.if-row_word-ne0.false)
+    (marked-taken _ l.marks _ _ l.invariant.2 (omega arith) c.if-marks-x-ne0.true)))
 
-array-write-marks : tie.Need-array-write-marks invariant-loop decreases-loop
-array-write-marks c = omega (arith, c.before.before.before.before.before.before.before.loop.invariant.2.len)
+array-write-marks : tie.Need-bounds-marks-x-in-loop-j invariant-loop decreases-loop
+array-write-marks c = omega (arith, c.loop-j.invariant.2.len)
 
-add-j : tie.Need-overflow-add-j invariant-loop decreases-loop
+add-j : tie.Need-overflow_add-j invariant-loop decreases-loop
 add-j c = omega arith
 
-loop-less : tie.Need-loop-smaller invariant-loop decreases-loop
+loop-less : tie.Need-loop-j-smaller invariant-loop decreases-loop
 loop-less c = omega arith
 
-loop-again : tie.Need-loop-preserved invariant-loop decreases-loop
-loop-again c = let l = c.before.before.before.before.before.before.before.loop in
+loop-again : tie.Need-loop-j-preserved invariant-loop decreases-loop
+loop-again c = let l = c.loop-j in
     let x = x-is c.before.before.before.before in (
       omega arith,
-      every_more _ _ l.invariant.1 (vacant-named _ _ _ x true c.before.before.before.if1.false (sym c.before.before.row-word2.ensures ∙ c.before.if2.false)
-          (marked-free _ l.marks _ _ l.invariant.2 (omega arith) c.if3.false)),
+      every_more _ _ l.invariant.1 (vacant-named _ _ _ x true c.if-n-x.false (sym c.row_word-in-loop-j.ensures ∙ c.if-row_word-ne0.false)
+          (marked-free _ l.marks _ _ l.invariant.2 (omega arith) c.if-marks-x-ne0.false)),
       marked_more _ l.marks _ _ l.invariant.2 (omega arith) (sym x),
     )
 
-returns-4 : tie.Need-returns-4 invariant-loop decreases-loop
-returns-4 c = let e : c.before.loop.j ≡ c.before.before.before.args.v = omega arith in
-    sym (rw e at c.before.loop.invariant.1)
+returns-4 : tie.Need-returns invariant-loop decreases-loop
+returns-4 c = let e : c.loop-j.j ≡ c.args.v = omega arith in
+    sym (rw e at c.loop-j.invariant.1)
 
-pub vacants-fine-spec : {M : Type 1} → statement M
-vacants-fine-spec =
+pub vacants_fine_spec : {M : Type 1} → statement M
+vacants_fine_spec =
     tie.close
     (tie.spec
     invariant-loop

@@ -7,10 +7,10 @@ use borrow.Author.Rules.{rules}
 use Rattle.wang_judge.proofs.config_of.Statement.{statement}
 use Rattle.wang_judge.proofs.config_of.Tie as tie
 
-f32-from-bits-requires : tie.Need-f32-from-bits-requires
+f32-from-bits-requires : tie.Need-f32_from_bits-requires
 f32-from-bits-requires c κs = search rules
 
-f32-from-bits-requires-2 : tie.Need-f32-from-bits-requires-2
+f32-from-bits-requires-2 : tie.Need-f32_from_bits-requires-2
 f32-from-bits-requires-2 c κs = search rules
 
 made : (tolerance votes : ℕ) (x x' y y' : Float) → x ≡ x' → y ≡ y'
@@ -20,7 +20,7 @@ made tolerance votes x x' y y' e f = rw (e, f)
 
 returns : tie.Need-returns
 unfolding of_bits
-returns c = made _ _ _ _ _ _ c.before.f32-from-bits.ensures c.f32-from-bits2.ensures
+returns c = made _ _ _ _ _ _ c.f32_from_bits.ensures c.f32_from_bits-2.ensures
 
-pub config-of-spec : {M : Type 1} → statement M
-config-of-spec = tie.close (tie.spec f32-from-bits-requires f32-from-bits-requires-2 returns)
+pub config_of_spec : {M : Type 1} → statement M
+config_of_spec = tie.close (tie.spec f32-from-bits-requires f32-from-bits-requires-2 returns)

@@ -23,39 +23,39 @@ low-is top h = rw (number_is top (omega arith)) (word-is (pos 0 -ℤ pos top) (l
 part-is : (l : List ℤ) (at : ℕ) → take (length l - at) (drop at l) ≡ drop at l
 part-is l at = take_all (length l - at) (drop at l) (omega (arith, length-drop at l))
 
-cast-top : tie.Need-overflow-cast-top
+cast-top : tie.Need-overflow_cast-top
 cast-top c = search rules
 
-cast-high : tie.Need-overflow-cast-high
+cast-high : tie.Need-overflow_cast-high
 cast-high c = search rules
 
-sub_low : tie.Need-overflow-sub-low
-sub_low c = rw (number_is c.args.q-max (omega arith)) (low_fits c.args.q-max c.requires.1)
+sub_low : tie.Need-overflow_sub-low
+sub_low c = rw (number_is c.args.q_max (omega arith)) (low_fits c.args.q_max c.requires.1)
 
-mul-sparse-wang-box-peak : tie.Need-overflow-mul-sparse-wang-box-peak
+mul-sparse-wang-box-peak : tie.Need-offset_bounds-s-at
 mul-sparse-wang-box-peak c = search rules
 
-sub-sparse-wang-box-peak : tie.Need-overflow-sub-sparse-wang-box-peak
+sub-sparse-wang-box-peak : tie.Need-slice_bounds-sparse_wang_box_peak-count
 sub-sparse-wang-box-peak c = search rules
 
-part-sparse-wang-box-peak-start : tie.Need-slice-bounds-sparse-wang-box-peak-start
+part-sparse-wang-box-peak-start : tie.Need-slice_bounds-sparse_wang_box_peak-start
 part-sparse-wang-box-peak-start c = search rules
 
-part-sparse-wang-box-peak-end : tie.Need-slice-bounds-sparse-wang-box-peak-end
+part-sparse-wang-box-peak-end : tie.Need-slice_bounds-sparse_wang_box_peak-end
 part-sparse-wang-box-peak-end c = search rules
 
-sparse-wang-box-peak-requires : tie.Need-sparse-wang-box-peak-requires
+sparse-wang-box-peak-requires : tie.Need-sparse_wang_box_peak-requires
 sparse-wang-box-peak-requires c κs =
-    let o = c.before in
-    rw (low-is o.args.q-max o.requires.1, number_is o.args.r-max (omega arith), part-is o.args.s.now o.args.at) o.requires.3
+    let o = c in
+    rw (low-is o.args.q_max o.requires.1, number_is o.args.r_max (omega arith), part-is o.args.s.now o.args.at) o.requires.3
 
 returns : tie.Need-returns
 returns c =
-    let o = c.before.before in
-    rw (low-is o.args.q-max o.requires.1, number_is o.args.r-max (omega arith), part-is o.args.s.now o.args.at) at c.sparse-wang-box-peak.ensures
+    let o = c in
+    rw (low-is o.args.q_max o.requires.1, number_is o.args.r_max (omega arith), part-is o.args.s.now o.args.at) at c.sparse_wang_box_peak.ensures
 
-pub peak-of-spec : {M : Type 1} → statement M
-peak-of-spec =
+pub peak_of_spec : {M : Type 1} → statement M
+peak_of_spec =
     tie.close
     (tie.spec
     cast-top
