@@ -1,4 +1,4 @@
-//! Links the proved libraries, which `rt staticlib` writes.
+//! Links the proved libraries, which `test` puts there.
 
 use std::path::Path;
 
@@ -14,7 +14,7 @@ fn main() {
         println!("cargo:rerun-if-changed={}", library.display());
         assert!(
             library.exists(),
-            "target/staticlib/lib{name}.a is not there: run `rt staticlib {name}` first"
+            "target/staticlib/lib{name}.a is not there: run `./test` first"
         );
         println!("cargo:rustc-link-lib=static={name}");
     }

@@ -9,7 +9,7 @@ ghost use Rattle.build_entries.specs.Laid.{laid_entries};
 ghost use Rattle.model.specs.Fingerprints.{malformed_build, reference_most};
 ghost use Rattle.model.specs.Rows.{is_set};
 ghost use Rattle.model.specs.Run.{run_build};
-ghost use Rattle.soundness.specs.Scan.{words, lent};
+ghost use Rattle.soundness.specs.Scan.{words};
 ghost use Rattle.model.specs.Words.{head_width, row_width};
 ghost use Rattle.build.specs.Answers.{building_answer, build_refusal, rows_for};
 
@@ -174,8 +174,8 @@ pub fn build(
     sets: &[u32],
 ) -> Building
     requires { (3 ≤ w) × (w ≤ 5) }
-    ensures { (building_answer result, lent refs.exit posts.exit stops.exit)
-        ≡ run_build w (lent refs.entry posts.entry stops.entry) limit hashes.now lengths.now rates.now sets.now }
+    ensures { (building_answer result, words refs.new posts.new stops.new)
+        ≡ run_build w (words refs.old posts.old stops.old) limit hashes.now lengths.now rates.now sets.now }
 {
     let n = refusal_of(refs, posts, stops, hashes, lengths, rates, w, limit, sets);
     if n != 0 {

@@ -11,7 +11,7 @@ ghost use Rattle.model.specs.Run.{run_insert};
 ghost use Rattle.model.specs.Words.{head_width, row_width, at_vacant};
 ghost use Rattle.postings.specs.Retain.{staying};
 ghost use Rattle.insert_merge.specs.Order.{places_in};
-ghost use Rattle.soundness.specs.Scan.{lent};
+ghost use Rattle.soundness.specs.Scan.{words};
 ghost use Rattle.insert.specs.Writing.{Placing, placed_entries, Stopping, recorded, Recording, id_in, postings_in, Writable};
 ghost use Rattle.insert.specs.Planned.{Plannable, Planned};
 ghost use Rattle.insert.specs.Insert.{insertion_answer, Ready, no_row};
@@ -212,9 +212,9 @@ fn admit(
     limit: u32,
     set: u32,
 ) -> Insertion
-    requires { Ready w (lent refs posts stops) hashes.now set }
-    ensures { (insertion_answer result, lent refs.exit posts.exit stops.exit)
-        ≡ run_insert w (lent refs.entry posts.entry stops.entry) limit rate set hashes.now }
+    requires { Ready w (words refs.old posts.old stops.old) hashes.now set }
+    ensures { (insertion_answer result, words refs.new posts.new stops.new)
+        ≡ run_insert w (words refs.old posts.old stops.old) limit rate set hashes.now }
 {
     let h = rows::header(refs);
     let mut order = [0i64; 16384];
@@ -253,8 +253,8 @@ pub fn insert(
     set: u32,
 ) -> Insertion
     requires { (3 ≤ w) × (w ≤ 5) }
-    ensures { (insertion_answer result, lent refs.exit posts.exit stops.exit)
-        ≡ run_insert w (lent refs.entry posts.entry stops.entry) limit rate set hashes.now }
+    ensures { (insertion_answer result, words refs.new posts.new stops.new)
+        ≡ run_insert w (words refs.old posts.old stops.old) limit rate set hashes.now }
 {
     let n = soundness::refusal_of(refs, posts, stops, w);
     if n != 0 {

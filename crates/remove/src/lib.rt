@@ -4,7 +4,7 @@ ghost use Rattle.std.specs.Prelude.{◌≡◌, ◌+◌, ◌*◌, ◌≤◌, leng
 ghost use Rattle.postings.specs.Retain.{Listed};
 ghost use Rattle.model.specs.Soundness.{live_id};
 ghost use Rattle.model.specs.Run.{run_count, run_remove};
-ghost use Rattle.soundness.specs.Scan.{lent};
+ghost use Rattle.soundness.specs.Scan.{words};
 ghost use Rattle.model.specs.Words.{head_width, row_width};
 ghost use Rattle.remove.specs.Answers.{count_answer, removal_answer};
 ghost use Rattle.remove.specs.Erasing.{vacated, others, others_left, Erasable};
@@ -28,8 +28,8 @@ pub enum Removal {
 // How many recordings are live.
 pub fn live_count(refs: &[u32], posts: &[u32], stops: &[u32], w: usize) -> LiveCount
     requires { (3 ≤ w) × (w ≤ 5) }
-    ensures { (count_answer result, lent refs.entry posts.entry stops.entry)
-        ≡ run_count w (lent refs.entry posts.entry stops.entry) }
+    ensures { (count_answer result, words refs.now posts.now stops.now)
+        ≡ run_count w (words refs.now posts.now stops.now) }
 {
     let r = refusal_of(refs, posts, stops, w);
     if r != 0 {
@@ -84,8 +84,8 @@ pub fn erase(refs: &mut [u32], posts: &mut [u32], w: usize, id: u32, list: &[u32
 // A recording goes.
 pub fn remove(refs: &mut [u32], posts: &mut [u32], stops: &[u32], w: usize, id: u32) -> Removal
     requires { (3 ≤ w) × (w ≤ 5) }
-    ensures { (removal_answer result, lent refs.exit posts.exit stops.entry)
-        ≡ run_remove w (lent refs.entry posts.entry stops.entry) id }
+    ensures { (removal_answer result, words refs.new posts.new stops.now)
+        ≡ run_remove w (words refs.old posts.old stops.now) id }
 {
     let r = refusal_of(refs, posts, stops, w);
     if r != 0 {

@@ -3,7 +3,7 @@
 ghost use Rattle.std.specs.Prelude.{◌≡◌, ◌≤◌, length, get_or};
 ghost use Rattle.model.specs.Run.{run_replace};
 ghost use Rattle.postings.specs.Retain.{Noted};
-ghost use Rattle.soundness.specs.Scan.{lent};
+ghost use Rattle.soundness.specs.Scan.{words};
 ghost use Rattle.insert.specs.Insert.{insertion_answer};
 ghost use Rattle.replace.specs.Replace.{Replaceable};
 
@@ -24,10 +24,10 @@ fn swap(
     own: usize,
     list: &mut [u32],
 ) -> Insertion
-    requires replaceable { Replaceable w (lent refs posts stops) hashes.now id }
+    requires replaceable { Replaceable w (words refs.old posts.old stops.old) hashes.now id }
     requires noted { Noted w (get_or refs.old 2 0) 1 id posts.old (get_or refs.old 2 0) list.old own × (40960 ≤ length list.old) }
-    ensures { (insertion_answer result, lent refs.exit posts.exit stops.exit)
-        ≡ run_replace w (lent refs.entry posts.entry stops.entry) id limit rate hashes.now }
+    ensures { (insertion_answer result, words refs.new posts.new stops.new)
+        ≡ run_replace w (words refs.old posts.old stops.old) id limit rate hashes.now }
 {
     let set = rows::row_word(refs, size(id), rows::AT_SET);
     let h = rows::header(refs);
@@ -68,8 +68,8 @@ pub fn replace(
     limit: u32,
 ) -> Insertion
     requires { (3 ≤ w) × (w ≤ 5) }
-    ensures { (insertion_answer result, lent refs.exit posts.exit stops.exit)
-        ≡ run_replace w (lent refs.entry posts.entry stops.entry) id limit rate hashes.now }
+    ensures { (insertion_answer result, words refs.new posts.new stops.new)
+        ≡ run_replace w (words refs.old posts.old stops.old) id limit rate hashes.now }
 {
     let mut list = [0u32; 40960];
     let found = soundness::refusal_listing(refs, posts, stops, w, id, &mut list);

@@ -3,7 +3,7 @@
 // that is held in memory.
 #![tactic(auto)]
 ghost use Rattle.std.specs.Prelude.{◌≡◌, false, ◌+◌, ◌*◌, ◌≤◌, ◌<◌, length};
-ghost use Rattle.soundness.specs.Scan.{lent};
+ghost use Rattle.soundness.specs.Scan.{lent, words};
 ghost use Rattle.sheet_text.specs.Put.{line_most, Put};
 ghost use Rattle.sheet_kinds.specs.Kinds.{zero_scratch};
 ghost use Rattle.sheet_card.specs.Ends.{header, end_line, fault_line};
@@ -186,10 +186,10 @@ pub fn turn(
 ) -> Turned
     requires line_most_in_bounds { (at + line_most ≤ length line.old) × (p.records ≤ p.offset) × (p.offset < limit) }
     requires scratch_value { scratch.old ≡ zero_scratch }
-    ensures put { Put line.old line.new at result.end (turn_of (lent refs.entry postings.entry stopped.entry) p bytes.now).line }
+    ensures put { Put line.old line.new at result.end (turn_of (words refs.old postings.old stopped.old) p bytes.now).line }
     ensures end_bound { result.end ≤ at + line_most }
-    ensures stopped_value { lent refs.exit postings.exit stopped.exit ≡ (turn_of (lent refs.entry postings.entry stopped.entry) p bytes.now).store }
-    ensures next_value { result.next ≡ (turn_of (lent refs.entry postings.entry stopped.entry) p bytes.now).next }
+    ensures stopped_value { words refs.new postings.new stopped.new ≡ (turn_of (words refs.old postings.old stopped.old) p bytes.now).store }
+    ensures next_value { result.next ≡ (turn_of (words refs.old postings.old stopped.old) p bytes.now).next }
     ensures scratch_after { scratch.new ≡ zero_scratch }
 {
     if !is_whole(bytes) {
@@ -261,7 +261,7 @@ fn put_turns(
     p: Progress,
 ) -> usize
     requires { Going card.now out.old p at × (scratch.old ≡ zero_scratch) }
-    ensures { Put out.old out.new at result (remains card.now (lent refs.entry postings.entry stopped.entry) p) }
+    ensures { Put out.old out.new at result (remains card.now (words refs.old postings.old stopped.old) p) }
 {
     let mut end = at;
     let mut next = p;

@@ -2,7 +2,7 @@
 #![tactic(auto)]
 ghost use Rattle.std.specs.Prelude.{◌≡◌, true, ◌+◌, ◌*◌, ◌≤◌, length, get_or};
 ghost use Rattle.model.specs.Run.{run};
-ghost use Rattle.soundness.specs.Scan.{lent};
+ghost use Rattle.soundness.specs.Scan.{lent, words};
 ghost use Rattle.wang_judge.specs.Scheme.{wang};
 ghost use Rattle.sheet_kinds.specs.Kinds.{zero_scratch, insert_call, remove_call, query_call, replace_call, kind_of, good_length};
 ghost use Rattle.sheet_text.specs.Put.{line_most};
@@ -25,8 +25,8 @@ fn insert_record(
     at: usize,
 ) -> usize
     requires { (2 ≤ length fields.now) × (at + line_most ≤ length line.old) }
-    ensures { Stepped line.old line.new at result (lent refs.exit postings.exit stopped.exit)
-        (line_and_store fields.now (run wang (lent refs.entry postings.entry stopped.entry) (insert_call fields.now))) }
+    ensures { Stepped line.old line.new at result (words refs.new postings.new stopped.new)
+        (line_and_store fields.now (run wang (words refs.old postings.old stopped.old) (insert_call fields.now))) }
 {
     let limit = fields[0];
     let rate = fields[1];
@@ -52,8 +52,8 @@ fn remove_record(
     at: usize,
 ) -> usize
     requires { (1 ≤ length fields.now) × (at + line_most ≤ length line.old) }
-    ensures { Stepped line.old line.new at result (lent refs.exit postings.exit stopped.entry)
-        (line_and_store fields.now (run wang (lent refs.entry postings.entry stopped.entry) (remove_call fields.now))) }
+    ensures { Stepped line.old line.new at result (words refs.new postings.new stopped.now)
+        (line_and_store fields.now (run wang (words refs.old postings.old stopped.now) (remove_call fields.now))) }
 {
     let id = fields[0];
     let answer = WangIndex::remove(refs, postings, stopped, id);
@@ -101,8 +101,8 @@ fn replace_record(
     at: usize,
 ) -> usize
     requires { (3 ≤ length fields.now) × (at + line_most ≤ length line.old) }
-    ensures { Stepped line.old line.new at result (lent refs.exit postings.exit stopped.exit)
-        (line_and_store fields.now (run wang (lent refs.entry postings.entry stopped.entry) (replace_call fields.now))) }
+    ensures { Stepped line.old line.new at result (words refs.new postings.new stopped.new)
+        (line_and_store fields.now (run wang (words refs.old postings.old stopped.old) (replace_call fields.now))) }
 {
     let id = fields[0];
     let limit = fields[1];
@@ -124,8 +124,8 @@ fn run_record(
 ) -> usize
     requires kind_value { (good_length (4 * length fields.now + 1) kind ≡ true) × (at + line_most ≤ length line.old) }
     requires scratch_value { scratch.old ≡ zero_scratch }
-    ensures stepped { Stepped line.old line.new at result (lent refs.exit postings.exit stopped.exit)
-        (step_by (lent refs.entry postings.entry stopped.entry) fields.now (kind_of kind)) }
+    ensures stepped { Stepped line.old line.new at result (words refs.new postings.new stopped.new)
+        (step_by (words refs.old postings.old stopped.old) fields.now (kind_of kind)) }
     ensures scratch_after { scratch.new ≡ zero_scratch }
 {
     if kind == 1 {
@@ -153,8 +153,8 @@ pub fn step(
 ) -> usize
     requires bytes_value { (good_length (length bytes.now) (get_or bytes.now 0 0) ≡ true) × (at + line_most ≤ length line.old) }
     requires scratch_value { scratch.old ≡ zero_scratch }
-    ensures stepped { Stepped line.old line.new at result (lent refs.exit postings.exit stopped.exit)
-        (step_of (lent refs.entry postings.entry stopped.entry) bytes.now) }
+    ensures stepped { Stepped line.old line.new at result (words refs.new postings.new stopped.new)
+        (step_of (words refs.old postings.old stopped.old) bytes.now) }
     ensures scratch_after { scratch.new ≡ zero_scratch }
 {
     let mut fields = [0u32; 2048];

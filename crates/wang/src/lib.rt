@@ -6,7 +6,7 @@
 ghost use Rattle.std.specs.Prelude.{◌≡◌, length};
 ghost use Rattle.model.specs.Calls.{build, insert, remove, replace, live_count, query};
 ghost use Rattle.model.specs.Run.{run};
-ghost use Rattle.soundness.specs.Scan.{lent};
+ghost use Rattle.soundness.specs.Scan.{lent, words};
 ghost use Rattle.build.specs.Answers.{building_answer};
 ghost use Rattle.insert.specs.Insert.{insertion_answer};
 ghost use Rattle.remove.specs.Answers.{count_answer, removal_answer};
@@ -38,8 +38,8 @@ impl WangIndex {
         limit: u32,
         sets: &[u32],
     ) -> Building
-        ensures { (building_answer result, lent refs.exit postings.exit stopped.exit)
-            ≡ run wang (lent refs.entry postings.entry stopped.entry)
+        ensures { (building_answer result, words refs.new postings.new stopped.new)
+            ≡ run wang (words refs.old postings.old stopped.old)
             (build limit hashes.now lengths.now rates.now sets.now) }
     {
         build::build(
@@ -57,16 +57,16 @@ impl WangIndex {
         limit: u32,
         set: u32,
     ) -> Insertion
-        ensures { (insertion_answer result, lent refs.exit postings.exit stopped.exit)
-            ≡ run wang (lent refs.entry postings.entry stopped.entry) (insert limit rate set hashes.now) }
+        ensures { (insertion_answer result, words refs.new postings.new stopped.new)
+            ≡ run wang (words refs.old postings.old stopped.old) (insert limit rate set hashes.now) }
     {
         insert::insert(refs, postings, stopped, hashes, WIDTH, rate, limit, set)
     }
 
     // Removes a recording, and answers whether it was live.
     pub fn remove(refs: &mut [u32], postings: &mut [u32], stopped: &[u32], id: u32) -> Removal
-        ensures { (removal_answer result, lent refs.exit postings.exit stopped.entry)
-            ≡ run wang (lent refs.entry postings.entry stopped.entry) (remove id) }
+        ensures { (removal_answer result, words refs.new postings.new stopped.now)
+            ≡ run wang (words refs.old postings.old stopped.now) (remove id) }
     {
         remove::remove(refs, postings, stopped, WIDTH, id)
     }
@@ -81,8 +81,8 @@ impl WangIndex {
         rate: u32,
         limit: u32,
     ) -> Insertion
-        ensures { (insertion_answer result, lent refs.exit postings.exit stopped.exit)
-            ≡ run wang (lent refs.entry postings.entry stopped.entry) (replace id limit rate hashes.now) }
+        ensures { (insertion_answer result, words refs.new postings.new stopped.new)
+            ≡ run wang (words refs.old postings.old stopped.old) (replace id limit rate hashes.now) }
     {
         replace::replace(refs, postings, stopped, hashes, WIDTH, id, rate, limit)
     }

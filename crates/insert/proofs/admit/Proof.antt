@@ -16,98 +16,98 @@ module _ (s : tie.Start) where
   m = words s.args.refs.now s.args.posts.now s.args.stops.now
 
   w2 : 2 ≤ s.args.w
-  w2 = omega (arith, s.pre.wide)
+  w2 = omega (arith, s.requires.wide)
 
-  R : Room s.args.w m w2 s.pre.is-listed s.pre.is-sound
-  R = rooms s.args.w m w2 s.pre.is-listed s.pre.is-sound
+  R : Room s.args.w m w2 s.requires.is-listed s.requires.is-sound
+  R = rooms s.args.w m w2 s.requires.is-listed s.requires.is-sound
 
 -- once the header is read
-module _ (d : tie.After-header) where
+module _ (d : tie.After-header-h) where
   abbrev s0 : tie.Start
-  s0 = d.before.before.before.before.before.before
+  s0 = d.before.before.before.before.before
 
 -- once the plan is made
-module _ (d : tie.After-plan-insertion) where
-  abbrev hd : tie.After-header
-  hd = d.before.before.before.before.before.before
+module _ (d : tie.After-plan_insertion-r) where
+  abbrev hd : tie.After-header-h
+  hd = d.before.before.before.before
 
-  planned : PlannedIn (s0 hd).args.w (s0 hd).args.limit (m (s0 hd)) (s0 hd).args.hashes.now d.plan-insertion.last.0 d.plan-insertion.last.1.0 d.plan-insertion.result
+  planned : PlannedIn (s0 hd).args.w (s0 hd).args.limit (m (s0 hd)) (s0 hd).args.hashes.now d.plan_insertion-r.new.order d.plan_insertion-r.new.overs d.plan_insertion-r.result
   planned =
       let s = s0 hd in
-      let h = hd.header in
+      let h = hd.header-h in
       plan-left h.result.postings h.result.rows s.args.posts.now s.args.refs.now s.args.posts.now s.args.stops.now
-      (sym (none-at-rows s.args.w (m s) (w2 s) s.pre.is-listed s.pre.is-sound h.result h.ensures)) refl (sym h.ensures.stopped) d.plan-insertion.ensures
+      (sym (none-at-rows s.args.w (m s) (w2 s) s.requires.is-listed s.requires.is-sound h.result h.ensures)) refl (sym h.ensures.stopped) d.plan_insertion-r.ensures
 
-header-requires : tie.Need-header-requires
-header-requires c κs = omega (arith, (R c.before.before.before.before.before).references)
+header-requires : tie.Need-header-h-requires
+header-requires c κs = omega (arith, (R c.before.before.before.before).references)
 
-slice-aggregate-plan-insertion : tie.Need-slice-aggregate-plan-insertion
+slice-aggregate-plan-insertion : tie.Need-slice_bounds-plan_insertion-end
 slice-aggregate-plan-insertion c = search rules
 
-slice-aggregate-plan-insertion-2 : tie.Need-slice-aggregate-plan-insertion-2
+slice-aggregate-plan-insertion-2 : tie.Need-slice_bounds-plan_insertion-end-2
 slice-aggregate-plan-insertion-2 c = search rules
 
-cast-plan-insertion : tie.Need-overflow-cast-plan-insertion
+cast-plan-insertion : tie.Need-overflow_cast-h
 cast-plan-insertion c =
-    let d = c.before.before.before.before.before in
-    omega (arith, d.header.ensures.rows, (R (s0 d)).rows_fit, (R (s0 d)).rows)
+    let d = c.before.before.before in
+    omega (arith, d.header-h.ensures.rows, (R (s0 d)).rows_fit, (R (s0 d)).rows)
 
-plan-insertion-requires : tie.Need-plan-insertion-requires
+plan-insertion-requires : tie.Need-plan_insertion-r-requires
 plan-insertion-requires c κs =
-    let d = c.before.before.before.before.before in
+    let d = c.before.before.before in
     let s = s0 d in (
-      plannable s.args.w (m s) (w2 s) s.pre.is-listed s.pre.is-sound s.args.hashes.now s.pre.formed d.header.result d.header.ensures,
-      (none-of-them s.args.w (m s) (w2 s) s.pre.is-listed s.pre.is-sound d.header.result d.header.ensures, (omega arith, omega arith)),
+      plannable s.args.w (m s) (w2 s) s.requires.is-listed s.requires.is-sound s.args.hashes.now s.requires.formed d.header-h.result d.header-h.ensures,
+      (none-of-them s.args.w (m s) (w2 s) s.requires.is-listed s.requires.is-sound d.header-h.result d.header-h.ensures, (omega arith, omega arith)),
     )
 
-same_length : tie.Need-same-length
+same_length : tie.Need-shape_of-refs-then-r-ne0
 same_length c = search rules
 
-same-length-2 : tie.Need-same-length-2
+same-length-2 : tie.Need-shape_of-posts-then-r-ne0
 same-length-2 c = search rules
 
-same-length-3 : tie.Need-same-length-3
+same-length-3 : tie.Need-shape_of-stops-then-r-ne0
 same-length-3 c = search rules
 
-returns : tie.Need-returns
+returns : tie.Need-returns-then-r-ne0
 returns c =
     let d = c.before.before.before.before in
-    sym (plan-refuses (s0 (hd d)).args.rate (s0 (hd d)).pre (planned d) c.if1.true)
+    sym (plan-refuses (s0 (hd d)).args.rate (s0 (hd d)).requires (planned d) c.if-r-ne0.true)
 
-slice-aggregate-write-recording : tie.Need-slice-aggregate-write-recording
+slice-aggregate-write-recording : tie.Need-slice_bounds-write_recording-end
 slice-aggregate-write-recording c = search rules
 
-slice-aggregate-write-recording-2 : tie.Need-slice-aggregate-write-recording-2
+slice-aggregate-write-recording-2 : tie.Need-slice_bounds-write_recording-end-2
 slice-aggregate-write-recording-2 c = search rules
 
-slice-aggregate-write-recording-3 : tie.Need-slice-aggregate-write-recording-3
+slice-aggregate-write-recording-3 : tie.Need-slice_bounds-write_recording-end-3
 slice-aggregate-write-recording-3 c = search rules
 
-write-recording-requires : tie.Need-write-recording-requires
+write-recording-requires : tie.Need-write_recording-requires
 write-recording-requires c κs =
-    let e = c.before.before.before.before.before.before in
-    let d = e.before.before.before.before in
-    (plan-allows (s0 (hd d)).args.rate (s0 (hd d)).pre (planned d) e.if1.false, omega arith)
+    let e = c in
+    let d = e.before.before.before.before.before.before.before.before.before.before in
+    (plan-allows (s0 (hd d)).args.rate (s0 (hd d)).requires (planned d) e.if-r-ne0.false, omega arith)
 
-same-length-4 : tie.Need-same-length-4
+same-length-4 : tie.Need-shape_of-refs
 same-length-4 c = search rules
 
-same-length-5 : tie.Need-same-length-5
+same-length-5 : tie.Need-shape_of-posts
 same-length-5 c = search rules
 
-same-length-6 : tie.Need-same-length-6
+same-length-6 : tie.Need-shape_of-stops
 same-length-6 c = search rules
 
-returns-2 : tie.Need-returns-2
+returns-2 : tie.Need-returns
 returns-2 c =
-    let wr = c.before.before.before.before.before.before.before in
-    let e = wr.before.before.before.before.before.before.before in
-    let d = e.before.before.before.before in
-    let k = wr.write-recording.ensures in
-    plan-stores (s0 (hd d)).args.rate (s0 (hd d)).pre (planned d) e.if1.false _ _ _ _ k.0 k.1.0 k.1.1.0 k.1.1.1
+    let wr = c in
+    let e = wr in
+    let d = e.before.before.before.before.before.before.before.before.before.before.before.before.before.before.before.before.before.before in
+    let k = wr.write_recording.ensures in
+    plan-stores (s0 (hd d)).args.rate (s0 (hd d)).requires (planned d) e.if-r-ne0.false _ _ _ _ k.0 k.1.0 k.1.1.0 k.1.1.1
 
-pub admit-spec : {M : Type 1} → statement M
-admit-spec =
+pub admit_spec : {M : Type 1} → statement M
+admit_spec =
     tie.close
     (tie.spec
     header-requires

@@ -7,23 +7,23 @@ use borrow.Author.Rules.{rules}
 use Rattle.insert.proofs.is_full.Statement.{statement}
 use Rattle.insert.proofs.is_full.Tie as tie
 
-header-requires : tie.Need-header-requires
+header-requires : tie.Need-header-h-requires
 header-requires c κs = search rules
 
-returns : tie.Need-returns
+returns : tie.Need-returns-then-h-ne0
 unfolding no_row
 returns c =
-    let h = c.before.before.header.ensures in
-    rw (ne_eqb (get_or _ 1 0) 0 (λ e. c.if1.true (h.vacant ∙ e)))
+    let h = c.header-h.ensures in
+    rw (ne_eqb (get_or _ 1 0) 0 (λ e. c.if-h-ne0.true (h.vacant ∙ e)))
 
-sub-result : tie.Need-overflow-sub-result
+sub-result : tie.Need-overflow_sub-result
 sub-result c = search rules
 
-returns-2 : tie.Need-returns-2
+returns-2 : tie.Need-returns
 unfolding no_row
 returns-2 c =
-    let h = c.before.before.before.header.ensures in
-    rw (eq-eqb (get_or _ 1 0) 0 (sym h.vacant ∙ c.before.if1.false), h.rows)
+    let h = c.header-h.ensures in
+    rw (eq-eqb (get_or _ 1 0) 0 (sym h.vacant ∙ c.if-h-ne0.false), h.rows)
 
-pub is-full-spec : {M : Type 1} → statement M
-is-full-spec = tie.close (tie.spec header-requires returns sub-result returns-2)
+pub is_full_spec : {M : Type 1} → statement M
+is_full_spec = tie.close (tie.spec header-requires returns sub-result returns-2)

@@ -5,20 +5,20 @@ use borrow.Author.Rules.{rules}
 use Rattle.insert.proofs.new_id.Statement.{statement}
 use Rattle.insert.proofs.new_id.Tie as tie
 
-returns : tie.Need-returns
-returns c = rw (eq-eqb _ 0 c.if1.true)
+returns : tie.Need-returns-then-c-eq0
+returns c = rw (eq-eqb _ 0 c.if-c-eq0.true)
 
-sub-row-word : tie.Need-overflow-sub-row-word
+sub-row-word : tie.Need-overflow_sub-c
 sub-row-word c = search rules
 
-row-word-requires : tie.Need-row-word-requires
+row-word-requires : tie.Need-row_word-requires
 row-word-requires c κs = search rules
 
 size-requires : tie.Need-size-requires
 size-requires c κs = search rules
 
-returns-2 : tie.Need-returns-2
-returns-2 c = rw (ne_eqb _ 0 c.before.before.before.if1.false) (c.size.ensures ∙ c.before.row_word.ensures)
+returns-2 : tie.Need-returns
+returns-2 c = rw (ne_eqb _ 0 c.if-c-eq0.false) (c.size.ensures ∙ c.row_word.ensures)
 
-pub new-id-spec : {M : Type 1} → statement M
-new-id-spec = tie.close (tie.spec returns sub-row-word row-word-requires size-requires returns-2)
+pub new_id_spec : {M : Type 1} → statement M
+new_id_spec = tie.close (tie.spec returns sub-row-word row-word-requires size-requires returns-2)

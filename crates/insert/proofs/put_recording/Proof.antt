@@ -5,72 +5,72 @@ use borrow.Author.Rules.{rules}
 use Rattle.insert.proofs.put_recording.Statement.{statement}
 use Rattle.insert.proofs.put_recording.Tie as tie
 
-put-row-requires : tie.Need-put-row-requires
+put-row-requires : tie.Need-put_row-requires
 put-row-requires c κs = search rules
 
-add-put-header : tie.Need-overflow-add-put-header
+add-put-header : tie.Need-overflow_add-n
 add-put-header c = search rules
 
-cast-put-header : tie.Need-overflow-cast-put-header
+cast-put-header : tie.Need-overflow_cast-n
 cast-put-header c = search rules
 
-cast-put-header-2 : tie.Need-overflow-cast-put-header-2
+cast-put-header-2 : tie.Need-overflow_cast-p
 cast-put-header-2 c = search rules
 
-cast-put-header-3 : tie.Need-overflow-cast-put-header-3
+cast-put-header-3 : tie.Need-overflow_cast-k
 cast-put-header-3 c = search rules
 
-put-header-requires : tie.Need-put-header-requires
+put-header-requires : tie.Need-put_header-requires
 put-header-requires c κs = search rules
 
-sub-put-entry : tie.Need-overflow-sub-put-entry
+sub-put-entry : tie.Need-overflow_sub-v
 sub-put-entry c = search rules
 
-put-entry-requires : tie.Need-put-entry-requires
+put-entry-requires : tie.Need-put_entry-requires
 put-entry-requires c κs = search rules
 
-put-row-requires-2 : tie.Need-put-row-requires-2
+put-row-requires-2 : tie.Need-put_row-requires-else-v-eq0
 put-row-requires-2 c κs = search rules
 
-cast-put-header-4 : tie.Need-overflow-cast-put-header-4
+cast-put-header-4 : tie.Need-overflow_cast-n-else-v-eq0
 cast-put-header-4 c = search rules
 
-sub-put-header : tie.Need-overflow-sub-put-header
+sub-put-header : tie.Need-overflow_sub-v-else-v-eq0
 sub-put-header c = search rules
 
-cast-put-header-5 : tie.Need-overflow-cast-put-header-5
+cast-put-header-5 : tie.Need-overflow_cast-v
 cast-put-header-5 c = search rules
 
-cast-put-header-6 : tie.Need-overflow-cast-put-header-6
+cast-put-header-6 : tie.Need-overflow_cast-p-else-v-eq0
 cast-put-header-6 c = search rules
 
-cast-put-header-7 : tie.Need-overflow-cast-put-header-7
+cast-put-header-7 : tie.Need-overflow_cast-k-else-v-eq0
 cast-put-header-7 c = search rules
 
-put-header-requires-2 : tie.Need-put-header-requires-2
+put-header-requires-2 : tie.Need-put_header-requires-else-v-eq0
 put-header-requires-2 c κs = search rules
 
-same_length : tie.Need-same-length
+same_length : tie.Need-shape_of-refs-then-v-eq0
 same_length c = search rules
 
-returns : tie.Need-returns
+returns : tie.Need-returns-then-v-eq0
 unfolding recorded
 returns c =
-    let d = c.before.before.before.before.before.before in
-    rw (eq-eqb _ 0 d.before.before.if1.true, c.before.before.put-header.ensures, d.put-row.ensures)
+    let d = c in
+    rw (eq-eqb _ 0 d.if-v-eq0.true, c.put_header.ensures, d.put_row.ensures)
 
-same-length-2 : tie.Need-same-length-2
+same-length-2 : tie.Need-shape_of-refs-else-v-eq0
 same-length-2 c = search rules
 
-returns-2 : tie.Need-returns-2
+returns-2 : tie.Need-returns-else-v-eq0
 unfolding recorded
 returns-2 c =
-    let d = c.before.before.before.before.before.before in
-    let e = d.before.before.before.before in
-    rw (ne_eqb _ 0 e.before.before.if1.false, c.before.before.put-header2.ensures, d.put-row2.ensures, e.put-entry.ensures)
+    let d = c in
+    let e = d in
+    rw (ne_eqb _ 0 e.if-v-eq0.false, c.put_header-else-v-eq0.ensures, d.put_row-else-v-eq0.ensures, e.put_entry.ensures)
 
-pub put-recording-spec : {M : Type 1} → statement M
-put-recording-spec =
+pub put_recording_spec : {M : Type 1} → statement M
+put_recording_spec =
     tie.close
     (tie.spec
     put-row-requires

@@ -8,21 +8,21 @@ use borrow.Author.Rules.{rules}
 use Rattle.insert.proofs.stop_keys.Statement.{statement}
 use Rattle.insert.proofs.stop_keys.Tie as tie
 
-merge-in-requires : tie.Need-merge-in-requires
+merge-in-requires : tie.Need-merge_in-requires
 merge-in-requires c κs =
-    let s = c.before.before.before in
+    let s = c in
     let P = s.requires in (
       (omega arith, rw one-mul P.room, rw one-mul P.overs-room),
       (ascend-words s.args.stops.now s.args.k (omega (arith, P.room)) P.ascend, ascend-words s.args.overs.now s.args.n P.overs-room P.overs-ascend),
     )
 
-same_length : tie.Need-same-length
+same_length : tie.Need-shape_of-stops
 same_length c = search rules
 
 returns : tie.Need-returns
 returns c =
-    let s = c.before.before.before.before.before.before in
-    c.before.before.merge_in.ensures ∙ stops-merged s.args.stops.now s.args.k s.args.overs.now s.args.n s.requires
+    let s = c in
+    c.merge_in.ensures ∙ stops-merged s.args.stops.now s.args.k s.args.overs.now s.args.n s.requires
 
-pub stop-keys-spec : {M : Type 1} → statement M
-stop-keys-spec = tie.close (tie.spec merge-in-requires same_length returns)
+pub stop_keys_spec : {M : Type 1} → statement M
+stop_keys_spec = tie.close (tie.spec merge-in-requires same_length returns)

@@ -10,29 +10,29 @@ use Rattle.panako_votes.proofs.fits.Tie as tie
 meet-requires : tie.Need-meet-requires
 meet-requires c κs = search rules
 
-same_length : tie.Need-same-length
+same_length : tie.Need-shape_of-ends-then-meet-room
 same_length c = search rules
 
-returns : tie.Need-returns
+returns : tie.Need-returns-then-meet-room
 returns c =
-    let a = c.before.before.before.before.before.before.before.before.before.before.args in
-    let k = c.before.before.before.meet in
-    let h = c.if1.true in
+    let a = c.args in
+    let k = c.meet in
+    let h = c.if-meet-room.true in
     (met-fit a.g (voting a.voters a.refs.now (entries 5 a.p a.posts.now)) (entries 4 a.m a.hashes.now) a.room k.result k.ensures.0 h, λ _. k.ensures.1 h)
 
-count-votes-requires : tie.Need-count-votes-requires
+count-votes-requires : tie.Need-count_votes-requires
 count-votes-requires c κs = search rules
 
-same-length-2 : tie.Need-same-length-2
+same-length-2 : tie.Need-shape_of-ends
 same-length-2 c = search rules
 
-returns-2 : tie.Need-returns-2
+returns-2 : tie.Need-returns
 returns-2 c =
-    let room = c.before.before.before.before.before.before.before.before.before.before.before.before.before.before.args.room in
-    let k = c.before.before.count-votes in
+    let room = c.args.room in
+    let k = c.count_votes in
     (held_fits room _ k.result k.ensures.0, λ t. k.ensures.1 (leb-true k.result room t))
 
-pub fits-spec : {M : Type 1} → statement M
-fits-spec =
+pub fits_spec : {M : Type 1} → statement M
+fits_spec =
     tie.close
     (tie.spec meet-requires same_length returns count-votes-requires same-length-2 returns-2)

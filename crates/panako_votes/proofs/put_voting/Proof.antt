@@ -12,42 +12,42 @@ use borrow.Author.Rules.{rules}
 use Rattle.panako_votes.proofs.put_voting.Statement.{statement}
 use Rattle.panako_votes.proofs.put_voting.Tie as tie
 
-mul-votes-at : tie.Need-overflow-mul-votes-at
+mul-votes-at : tie.Need-overflow_mul-j
 mul-votes-at c = search rules
 
-votes-at-requires : tie.Need-votes-at-requires
-votes-at-requires c κs = let s = c.before.before in (omega (arith, s.requires.1), s.requires.4)
+votes-at-requires : tie.Need-votes_at-requires
+votes-at-requires c κs = let s = c in (omega (arith, s.requires.1), s.requires.4)
 
 -- the posting votes
-module _ (c : tie.Then1) where
+module _ (c : tie.Then-votes_at-gt0) where
   abbrev s : tie.Start
   s = c.before.before.before.before
 
   yes-votes : may_vote s.args.voters s.args.refs.now (get_or s.args.part.now (5 * s.args.j + 1) 0) ≡ true
-  yes-votes = when-yes _ c.before.votes-at.result c.before.votes-at.ensures.0 (omega (arith, c.if1.true))
+  yes-votes = when-yes _ c.votes_at.result c.votes_at.ensures.0 (omega (arith, c.if-votes_at-gt0.true))
 
-put-pair-requires : tie.Need-put-pair-requires
+put-pair-requires : tie.Need-put_pair-requires
 put-pair-requires c κs =
     let k = c.before in
     let a = (s k).args in
     (omega (arith, (s k).requires.0, ap length (given_yes a.voters a.refs.now a.g a.qa a.qc a.part.now a.j (yes-votes k))), (s k).requires.1, (s k).requires.2, (s k).requires.3)
 
-same_length : tie.Need-same-length
+same_length : tie.Need-shape_of-s-then-votes_at-gt0
 same_length c = search rules
 
-returns : tie.Need-returns
+returns : tie.Need-returns-then-votes_at-gt0
 returns c =
     let k = c.before.before.before in
     let a = (s k).args in
-    rw (given_yes a.voters a.refs.now a.g a.qa a.qc a.part.now a.j (yes-votes k)) c.before.put-pair.ensures
+    rw (given_yes a.voters a.refs.now a.g a.qa a.qc a.part.now a.j (yes-votes k)) c.put_pair.ensures
 
-returns-2 : tie.Need-returns-2
+returns-2 : tie.Need-returns
 returns-2 c =
-    let k = c.before in
-    let a = k.before.before.before.args in
-    rw (given-no a.voters a.refs.now a.g a.qa a.qc a.part.now a.j (when-no _ k.votes-at.result k.votes-at.ensures.0 c.if1.false)) (omega arith, sym (append-nil (take a.at a.s.now)))
+    let k = c in
+    let a = k.args in
+    rw (given-no a.voters a.refs.now a.g a.qa a.qc a.part.now a.j (when-no _ k.votes_at.result k.votes_at.ensures.0 c.if-votes_at-gt0.false)) (omega arith, sym (append-nil (take a.at a.s.now)))
 
-pub put-voting-spec : {M : Type 1} → statement M
-put-voting-spec =
+pub put_voting_spec : {M : Type 1} → statement M
+put_voting_spec =
     tie.close
     (tie.spec mul-votes-at votes-at-requires put-pair-requires same_length returns returns-2)

@@ -4,7 +4,6 @@ use mathlib.Core.Bool.{true}
 use mathlib.Core.List.{List}
 use Prim.Native.Nat.{ℕ}
 use native.Mathlib.Omega.{arith}
-use borrow.Author.Tests.{not-true, not-false}
 use borrow.Author.Rules.{rules}
 use Rattle.soundness.specs.Scan.{words}
 use Rattle.soundness.proofs.Refusal.{accepted}
@@ -43,12 +42,12 @@ same-length-4 c = search rules
 returns-2 : tie.Need-returns-then-not-is_live
 returns-2 c = let s = c in
     let a = accepted s.args.w (words s.args.refs.now s.args.posts.now s.args.stops.now) (sym c.refusal_of-r.ensures ∙ c.if-r-ne0.false) in
-    sym (remove-dead s.args.w s.args.refs.now s.args.posts.now s.args.stops.now s.requires.0 a.0 a.1 s.args.id (sym c.is_live.ensures ∙ not-true _ c.if-not-is_live.true))
+    sym (remove-dead s.args.w s.args.refs.now s.args.posts.now s.args.stops.now s.requires.0 a.0 a.1 s.args.id (sym c.is_live.ensures ∙ c.if-not-is_live.true))
 
 erase-requires : tie.Need-erase-requires
 erase-requires c κs = let s = c in
     let a = accepted s.args.w (words s.args.refs.now s.args.posts.now s.args.stops.now) (sym c.refusal_of-r.ensures ∙ c.if-r-ne0.false) in
-    (erasable s.args.w s.args.refs.now s.args.posts.now s.args.stops.now s.requires.0 a.0 a.1 s.args.id (sym c.is_live.ensures ∙ not-false _ c.if-not-is_live.false), listed-none _ _ _ _ _ _)
+    (erasable s.args.w s.args.refs.now s.args.posts.now s.args.stops.now s.requires.0 a.0 a.1 s.args.id (sym c.is_live.ensures ∙ c.if-not-is_live.false), listed-none _ _ _ _ _ _)
 
 same-length-5 : tie.Need-shape_of-refs
 same-length-5 c = search rules
@@ -59,7 +58,7 @@ same-length-6 c = search rules
 returns-3 : tie.Need-returns
 returns-3 c = let s = c in
     let a = accepted s.args.w (words s.args.refs.now s.args.posts.now s.args.stops.now) (sym c.refusal_of-r.ensures ∙ c.if-r-ne0.false) in
-    let e = remove-live s.args.w s.args.refs.now s.args.posts.now s.args.stops.now s.requires.0 a.0 a.1 s.args.id (sym c.is_live.ensures ∙ not-false _ c.if-not-is_live.false) in
+    let e = remove-live s.args.w s.args.refs.now s.args.posts.now s.args.stops.now s.requires.0 a.0 a.1 s.args.id (sym c.is_live.ensures ∙ c.if-not-is_live.false) in
     let f = c.erase.ensures in
     ap₂ (λ (rs ps : List ℕ). (removed true, words rs ps s.args.stops.now)) f.0 f.1 ∙ sym e
 

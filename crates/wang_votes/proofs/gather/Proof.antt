@@ -16,114 +16,114 @@ use Rattle.wang_votes.proofs.Walks.{put-hash}
 use Rattle.wang_votes.proofs.gather.Statement.{statement}
 use Rattle.wang_votes.proofs.gather.Tie as tie
 
-abbrev invariant-loop : tie.invariant-loop
+abbrev invariant-loop : tie.invariant-loop-i
 invariant-loop s₀ refs voters posts p hashes m starts ends top v₀ i₀ s v i =
     (i ≤ m) × (v ≡ met (voting voters refs (entries 3 p posts)) (entries 2 i hashes)) × (take v s ≡ firsts (pair_word top) (voting voters refs (entries 3 p posts)) 2 hashes i)
     × (length s ≡ length s₀)
 
-abbrev decreases-loop : tie.decreases-loop
+abbrev decreases-loop : tie.decreases-loop-i
 decreases-loop s₀ refs voters posts p hashes m starts ends top v₀ i₀ s v i = m - i
 
-loop-holds : tie.Need-loop-init invariant-loop decreases-loop
+loop-holds : tie.Need-loop-i-init invariant-loop decreases-loop
 loop-holds c = (omega arith, sym (met-none _ _ _), sym (firsts-none (pair_word _) _ 2 _), refl)
 
-mul-k : tie.Need-overflow-mul-k invariant-loop decreases-loop
+mul-k : tie.Need-overflow_mul-k invariant-loop decreases-loop
 mul-k c = search rules
 
-mul-key : tie.Need-overflow-mul-key invariant-loop decreases-loop
+mul-key : tie.Need-offset_bounds-hashes-k invariant-loop decreases-loop
 mul-key c = search rules
 
-shared-slice-read-key : tie.Need-shared-slice-read-key invariant-loop decreases-loop
+shared-slice-read-key : tie.Need-bounds-hashes-k invariant-loop decreases-loop
 shared-slice-read-key c = search rules
 
-add_wide : tie.Need-overflow-add-wide invariant-loop decreases-loop
+add_wide : tie.Need-overflow_add-k invariant-loop decreases-loop
 add_wide c = search rules
 
-mul_wide : tie.Need-overflow-mul-wide invariant-loop decreases-loop
+mul_wide : tie.Need-offset_bounds-hashes-k-in-loop-i invariant-loop decreases-loop
 mul_wide c = search rules
 
-shared-slice-read-wide : tie.Need-shared-slice-read-wide invariant-loop decreases-loop
+shared-slice-read-wide : tie.Need-bounds-hashes-k-in-loop-i invariant-loop decreases-loop
 shared-slice-read-wide c = search rules
 
-wide-requires : tie.Need-wide-requires invariant-loop decreases-loop
+wide-requires : tie.Need-wide-t-requires invariant-loop decreases-loop
 wide-requires c κs = search rules
 
-mul-gather-key : tie.Need-overflow-mul-gather-key invariant-loop decreases-loop
+mul-gather-key : tie.Need-offset_bounds-starts-i invariant-loop decreases-loop
 mul-gather-key c = search rules
 
-shared-slice-read-gather-key : tie.Need-shared-slice-read-gather-key invariant-loop decreases-loop
+shared-slice-read-gather-key : tie.Need-bounds-starts-i invariant-loop decreases-loop
 shared-slice-read-gather-key c = search rules
 
-mul-gather-key-2 : tie.Need-overflow-mul-gather-key-2 invariant-loop decreases-loop
+mul-gather-key-2 : tie.Need-offset_bounds-ends-i invariant-loop decreases-loop
 mul-gather-key-2 c = search rules
 
-shared-slice-read-gather-key-2 : tie.Need-shared-slice-read-gather-key-2 invariant-loop decreases-loop
+shared-slice-read-gather-key-2 : tie.Need-bounds-ends-i invariant-loop decreases-loop
 shared-slice-read-gather-key-2 c = search rules
 
 -- a turn of the loop
-module _ (c : tie.At-loop invariant-loop decreases-loop) where
+module _ (c : tie.At-loop-i invariant-loop decreases-loop) where
   abbrev s : tie.Start invariant-loop decreases-loop
   s = c.before.before.before.before.before.before
 
   abbrev es : List (List ℕ)
   es = voting s.args.voters s.args.refs.now (entries 3 s.args.p s.args.posts.now)
 
-  more : met es (entries 2 (c.loop.i + 1) s.args.hashes.now) ≡ met es (entries 2 c.loop.i s.args.hashes.now) + length (under key_of (get_or s.args.hashes.now (2 * c.loop.i) 0) es)
-  more = met-more es 2 s.args.hashes.now (omega arith) c.loop.i
+  more : met es (entries 2 (c.loop-i.i + 1) s.args.hashes.now) ≡ met es (entries 2 c.loop-i.i s.args.hashes.now) + length (under key_of (get_or s.args.hashes.now (2 * c.loop-i.i) 0) es)
+  more = met-more es 2 s.args.hashes.now (omega arith) c.loop-i.i
 
-sub-gather-key : tie.Need-overflow-sub-gather-key invariant-loop decreases-loop
+sub-gather-key : tie.Need-overflow_sub-top invariant-loop decreases-loop
 sub-gather-key c =
-    let w = c.before.before.before in
-    let l = w.before.before.before.before in
-    omega (arith, w.wide.ensures.0, (s l).requires.0.below l.loop.i (omega arith))
+    let w = c in
+    let l = w.before.before.before.before.before.before.before in
+    omega (arith, w.wide-t.ensures.0, (s l).requires.0.below l.loop-i.i (omega arith))
 
-gather-key-requires : tie.Need-gather-key-requires invariant-loop decreases-loop
+gather-key-requires : tie.Need-gather_key-v-requires invariant-loop decreases-loop
 gather-key-requires c κs =
     let l = c.before.before.before.before.before.before.before in
     let o = s l in
-    let i = l.loop.i in
+    let i = l.loop-i.i in
     let b = met-longer (es l) 2 o.args.hashes.now (omega arith) (i + 1) o.args.m (omega arith) in (
-      o.pre.0.walk.postings,
-      o.pre.0.walk.ascend,
-      o.pre.1.begins i (omega arith),
-      o.pre.2.stops i (omega arith),
-      o.pre.0.ids,
+      o.requires.0.walk.postings,
+      o.requires.0.walk.ascend,
+      o.requires.1.begins i (omega arith),
+      o.requires.2.stops i (omega arith),
+      o.requires.0.ids,
       omega (arith, more l, b),
-      omega (arith, o.pre.0.high),
-      omega (arith, o.pre.0.walk.few),
-      o.pre.0.rowed,
+      omega (arith, o.requires.0.high),
+      omega (arith, o.requires.0.walk.few),
+      o.requires.0.rowed,
     )
 
-add-i : tie.Need-overflow-add-i invariant-loop decreases-loop
+add-i : tie.Need-overflow_add-i invariant-loop decreases-loop
 add-i c = search rules
 
-loop-less : tie.Need-loop-smaller invariant-loop decreases-loop
+loop-less : tie.Need-loop-i-smaller invariant-loop decreases-loop
 loop-less c = search rules
 
-loop-again : tie.Need-loop-preserved invariant-loop decreases-loop
+loop-again : tie.Need-loop-i-preserved invariant-loop decreases-loop
 loop-again c =
-    let k = c.before in
-    let w = k.before.before.before.before in
-    let l = w.before.before.before.before in
-    let e = rw w.wide.ensures.0 at k.gather-key.ensures.1 in (
+    let k = c in
+    let w = k in
+    let l = c.before.before.before.before.before.before.before.before.before in
+    let e = rw w.wide-t.ensures.0 at k.gather_key-v.ensures.1 in (
       omega arith,
-      omega (arith, more l, k.gather-key.ensures.0),
-      put-hash (es l) (s l).args.hashes.now (s l).args.top l.loop.i (take l.loop.v l.loop.s) _ l.loop.invariant.2 e,
-      k.gather-key.auto.0 ∙ l.loop.invariant.3,
+      omega (arith, more l, k.gather_key-v.ensures.0),
+      put-hash (es l) (s l).args.hashes.now (s l).args.top l.loop-i.i (take l.loop-i.v l.loop-i.s) _ l.loop-i.invariant.2 e,
+      k.gather_key-v.auto.s ∙ l.loop-i.invariant.3,
     )
 
-same_length : tie.Need-same-length invariant-loop decreases-loop
-same_length c = c.before.loop.invariant.3
+same_length : tie.Need-shape_of-s invariant-loop decreases-loop
+same_length c = c.loop-i.invariant.3
 
 returns : tie.Need-returns invariant-loop decreases-loop
 returns c =
-    let l = c.before.loop in
+    let l = c.loop-i in
     let a = (s c.before).args in
     let e : l.i ≡ a.m = omega arith in
     (rw e at l.invariant.1, rw e at l.invariant.2 ∙ firsts-all (pair_word a.top) (es c.before) 2 a.hashes.now a.m)
 
-pub gather-spec : {M : Type 1} → statement M
-gather-spec =
+pub gather_spec : {M : Type 1} → statement M
+gather_spec =
     tie.close
     (tie.spec
     invariant-loop

@@ -15,12 +15,12 @@ use Rattle.wang_votes.specs.Gathered.{word_with, words_on}
 use Rattle.wang_votes.proofs.gather_part.Statement.{statement}
 use Rattle.wang_votes.proofs.gather_part.Tie as tie
 
-abbrev invariant-loop : tie.invariant-loop
+abbrev invariant-loop : tie.invariant-loop-j
 invariant-loop s₀ at refs voters part n shift q v₀ j₀ s v j =
     (j ≤ n) × (v ≡ at + length (words_by (if_voting voters refs (word_with shift q)) (entries 3 j part)))
     × (take v s ≡ take at s₀ ++ words_by (if_voting voters refs (word_with shift q)) (entries 3 j part)) × (length s ≡ length s₀)
 
-abbrev decreases-loop : tie.decreases-loop
+abbrev decreases-loop : tie.decreases-loop-j
 decreases-loop s₀ at refs voters part n shift q v₀ j₀ s v j = n - j
 
 module _ (s : tie.Start invariant-loop decreases-loop) where
@@ -31,19 +31,19 @@ module _ (s : tie.Start invariant-loop decreases-loop) where
   all : words_on s.args.shift s.args.q (voting s.args.voters s.args.refs.now (entries 3 s.args.n s.args.part.now)) ≡ words_by f (entries 3 s.args.n s.args.part.now)
   all = words-voting s.args.voters s.args.refs.now (word_with s.args.shift s.args.q) (entries 3 s.args.n s.args.part.now)
 
-loop-holds : tie.Need-loop-init invariant-loop decreases-loop
+loop-holds : tie.Need-loop-j-init invariant-loop decreases-loop
 loop-holds c =
     let s = c.before.before in
     let a = s.args in
     (omega arith, omega (arith, ap length (given-none (f s) 3 a.part.now)), put-none (f s) 3 a.part.now (take a.at a.s.now), refl)
 
-put-vote-requires : tie.Need-put-vote-requires invariant-loop decreases-loop
+put-vote-requires : tie.Need-put_vote-v-requires invariant-loop decreases-loop
 put-vote-requires c κs =
-    let l = c.before.before in
-    let s = l.before.before.before in
+    let l = c in
+    let s = l.before.before.before.before.before in
     let a = s.args in
-    let j = l.loop.j in (
-      omega (arith, l.loop.invariant.1, s.requires.0, ap length (all s), given-count (f s) 3 a.part.now j, given-longer (f s) 3 a.part.now (j + 1) a.n (omega arith)),
+    let j = l.loop-j.j in (
+      omega (arith, l.loop-j.invariant.1, s.requires.0, ap length (all s), given-count (f s) 3 a.part.now j, given-longer (f s) 3 a.part.now (j + 1) a.n (omega arith)),
       omega (arith, s.requires.1),
       id_below 3 (omega arith) a.part.now a.n j s.requires.2 (omega arith),
       rowed-at a.refs.now a.part.now 3 a.n s.requires.3 j (omega arith),
@@ -51,32 +51,32 @@ put-vote-requires c κs =
       s.requires.5,
     )
 
-add-j : tie.Need-overflow-add-j invariant-loop decreases-loop
+add-j : tie.Need-overflow_add-j invariant-loop decreases-loop
 add-j c = search rules
 
-loop-less : tie.Need-loop-smaller invariant-loop decreases-loop
+loop-less : tie.Need-loop-j-smaller invariant-loop decreases-loop
 loop-less c = search rules
 
-loop-again : tie.Need-loop-preserved invariant-loop decreases-loop
+loop-again : tie.Need-loop-j-preserved invariant-loop decreases-loop
 loop-again c =
-    let k = c.before in
-    let l = k.before.before.before in
-    let s = l.before.before.before in
+    let k = c in
+    let l = k in
+    let s = l.before.before.before.before.before.before.before in
     let a = s.args in
-    (omega arith, omega (arith, l.loop.invariant.1, given-count (f s) 3 a.part.now l.loop.j, k.put-vote.ensures.0), put-more (f s) 3 a.part.now (take a.at a.s.now) (take l.loop.v l.loop.s) _ l.loop.j l.loop.invariant.2 k.put-vote.ensures.1, k.put-vote.auto.0 ∙ l.loop.invariant.3)
+    (omega arith, omega (arith, l.loop-j.invariant.1, given-count (f s) 3 a.part.now l.loop-j.j, k.put_vote-v.ensures.0), put-more (f s) 3 a.part.now (take a.at a.s.now) (take l.loop-j.v l.loop-j.s) _ l.loop-j.j l.loop-j.invariant.2 k.put_vote-v.ensures.1, k.put_vote-v.auto.s ∙ l.loop-j.invariant.3)
 
-same_length : tie.Need-same-length invariant-loop decreases-loop
-same_length c = c.before.loop.invariant.3
+same_length : tie.Need-shape_of-s invariant-loop decreases-loop
+same_length c = c.loop-j.invariant.3
 
 returns : tie.Need-returns invariant-loop decreases-loop
 returns c =
-    let l = c.before.loop in
+    let l = c.loop-j in
     let s = c.before.before.before.before in
     let e : l.j ≡ s.args.n = omega arith in
     rw (all s) (rw e at l.invariant.1, rw e at l.invariant.2)
 
-pub gather-part-spec : {M : Type 1} → statement M
-gather-part-spec =
+pub gather_part_spec : {M : Type 1} → statement M
+gather_part_spec =
     tie.close
     (tie.spec
     invariant-loop

@@ -9,43 +9,43 @@ use borrow.Author.Rules.{rules}
 use Rattle.wang_votes.proofs.put_vote.Statement.{statement}
 use Rattle.wang_votes.proofs.put_vote.Tie as tie
 
-mul-k : tie.Need-overflow-mul-k
+mul-k : tie.Need-overflow_mul-k
 mul-k c = search rules
 
-votes-at-requires : tie.Need-votes-at-requires
-votes-at-requires c κs = let s = c.before.before in (omega (arith, s.requires.1), s.requires.3)
+votes-at-requires : tie.Need-votes_at-requires
+votes-at-requires c κs = let s = c in (omega (arith, s.requires.1), s.requires.3)
 
-put-posting-requires : tie.Need-put-posting-requires
+put-posting-requires : tie.Need-put_posting-requires
 put-posting-requires c κs =
-    let k = c.before.before in
-    let s = k.before.before.before in
+    let k = c in
+    let s = k in
     let a = s.args in
-    let may = when-yes (may_vote a.voters a.refs.now (get_or a.part.now (3 * a.j + 1) 0)) k.votes-at.result k.votes-at.ensures.0 (omega (arith, c.before.if1.true)) in
+    let may = when-yes (may_vote a.voters a.refs.now (get_or a.part.now (3 * a.j + 1) 0)) k.votes_at.result k.votes_at.ensures.0 (omega (arith, c.if-votes_at-gt0.true)) in
     (one-room a.part.now a.shift a.q a.voters a.refs.now a.j a.at (length a.s.now) may s.requires.0, omega (arith, s.requires.1), s.requires.2, s.requires.4, s.requires.5)
 
-add-result : tie.Need-overflow-add-result
+add-result : tie.Need-overflow_add-result
 add-result c = search rules
 
-same_length : tie.Need-same-length
+same_length : tie.Need-shape_of-s-then-votes_at-gt0
 same_length c = search rules
 
-returns : tie.Need-returns
+returns : tie.Need-returns-then-votes_at-gt0
 returns c =
-    let t = c.before.before.before in
-    let k = t.before in
-    let s = k.before.before.before in
+    let t = c in
+    let k = t in
+    let s = k in
     let a = s.args in
-    let may = when-yes (may_vote a.voters a.refs.now (get_or a.part.now (3 * a.j + 1) 0)) k.votes-at.result k.votes-at.ensures.0 (omega (arith, t.if1.true)) in
-    put_one a.part.now a.shift a.q a.voters a.refs.now a.j a.s.now c.before.put-posting.new.0 a.at may (one-room a.part.now a.shift a.q a.voters a.refs.now a.j a.at (length a.s.now) may s.requires.0) c.before.put-posting.ensures
+    let may = when-yes (may_vote a.voters a.refs.now (get_or a.part.now (3 * a.j + 1) 0)) k.votes_at.result k.votes_at.ensures.0 (omega (arith, t.if-votes_at-gt0.true)) in
+    put_one a.part.now a.shift a.q a.voters a.refs.now a.j a.s.now c.put_posting.new.s a.at may (one-room a.part.now a.shift a.q a.voters a.refs.now a.j a.at (length a.s.now) may s.requires.0) c.put_posting.ensures
 
-returns-2 : tie.Need-returns-2
+returns-2 : tie.Need-returns
 returns-2 c =
-    let k = c.before in
-    let a = k.before.before.before.args in
-    put-none a.part.now a.shift a.q a.voters a.refs.now a.j a.s.now a.at (when-no (may_vote a.voters a.refs.now (get_or a.part.now (3 * a.j + 1) 0)) k.votes-at.result k.votes-at.ensures.0 c.if1.false)
+    let k = c in
+    let a = k.args in
+    put-none a.part.now a.shift a.q a.voters a.refs.now a.j a.s.now a.at (when-no (may_vote a.voters a.refs.now (get_or a.part.now (3 * a.j + 1) 0)) k.votes_at.result k.votes_at.ensures.0 c.if-votes_at-gt0.false)
 
-pub put-vote-spec : {M : Type 1} → statement M
-put-vote-spec =
+pub put_vote_spec : {M : Type 1} → statement M
+put_vote_spec =
     tie.close
     (tie.spec
     mul-k
