@@ -1,5 +1,6 @@
 // Votes as words, sorted: where a run ends, run-length bins, distinct query positions.
 #![tactic(auto)]
+
 ghost use Rattle.std.specs.Prelude.{◌≡◌, ℕ, ◌+◌, ◌%◌, ◌≤◌, ◌<◌, ◌^◌, max, pos, length, get_or};
 ghost use Rattle.maps.specs.Sums.{sum_to, when};
 ghost use Rattle.bins.specs.Votes.{packed, above, lead_of, places, positions, Run};

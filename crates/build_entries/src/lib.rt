@@ -1,5 +1,6 @@
 // Hashes laid down as entries in key order, and the rows of their recordings.
 #![tactic(auto)]
+
 ghost use Rattle.std.specs.Prelude.{◌≡◌, cond, [], ◌∷◌, ◌++◌, map, ◌+◌, ◌*◌, ◌-◌, ◌≤◌, length, take, drop, get_or};
 ghost use Rattle.lists.specs.Lists.{sum, flat, All};
 ghost use Rattle.build_ranges.specs.Codes.{Fit, tabulate, ranks_from};

@@ -1,6 +1,7 @@
 // `matching/consolidate.rs` of the reference, in one dimension: the mode of offsets with counts, and
 // the box sweep over a Wang candidate's bins. A bin is two words of a slice: its offset, its count.
 #![tactic(auto)]
+
 ghost use Rattle.std.specs.Prelude.{◌≡◌, ◌||◌, ◌+◌, ◌-◌, ◌*◌, ◌<◌, ◌≤◌, ◌^◌, length, get_or, ℤ, pos, nat_abs, ◌+ℤ◌, leb};
 ghost use Rattle.std.specs.Int.Signed.{lt_z};
 ghost use Rattle.maps.specs.Bins.{offset, votes, place};

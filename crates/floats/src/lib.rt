@@ -1,6 +1,7 @@
 // The float operations of Rust's core that `matching` and the indexes use and that the language
 // lacks. Each contract is an equation with a term of `lib.Ieee` or with a definition of `specs/`.
 #![tactic(auto)]
+
 ghost use Rattle.std.specs.Prelude.{◌≡◌, ◌^◌, ◌<◌, ◌≤◌, true, false, T, pos, negsuc, if◌then◌else◌};
 ghost use Rattle.std.specs.Float.Ieee as Ieee;
 ghost use Rattle.std.specs.Float.{fin, binary32, binary64};

@@ -1,6 +1,7 @@
 // The gates of a candidate, of Wang and of Panako alike, and the result of one that passes them: what stands in line in both queries of the
 // reference.
 #![tactic(auto)]
+
 ghost use Rattle.std.specs.Prelude.{◌≡◌, ◌<◌, ◌^◌};
 ghost use Rattle.gates.specs.Gates.{admits, result_at};
 

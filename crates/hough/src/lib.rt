@@ -9,6 +9,7 @@
 // So three windows slide over the bins, each by two indices that only grow. The sums of a few bins are
 // worked out pair by pair, and with a small tolerance the offset of their peak directly.
 #![tactic(auto)]
+
 ghost use Rattle.std.specs.Prelude.{◌≡◌, ◌&&◌, ◌||◌, ℕ, ◌+◌, ◌-◌, ◌*◌, ◌<◌, ◌≤◌, ◌^◌, length, get_or, take, set, pos, T, leb, ltb, eqb};
 ghost use Rattle.std.specs.Int.Signed.{non_neg};
 ghost use Rattle.lists.specs.Every.{every};

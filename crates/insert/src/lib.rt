@@ -1,5 +1,6 @@
 // The insertion of a recording into a lent store.
 #![tactic(auto)]
+
 ghost use Rattle.std.specs.Prelude.{◌≡◌, cond, [], ◌∷◌, ◌+◌, ◌*◌, ◌-◌, ◌/◌, ◌^◌, ◌≤◌, ◌<◌, eqb, ltb, length, get_or, take};
 ghost use Rattle.lists.specs.Lists.{flat};
 ghost use Rattle.lists.specs.Keys.{place_all};

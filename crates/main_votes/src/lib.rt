@@ -1,5 +1,6 @@
 // Of votes in any order, those of one recording, where the others are too few to make a candidate.
 #![tactic(auto)]
+
 ghost use Rattle.std.specs.Prelude.{◌≡◌, ◌≤◌, ◌<◌, ◌^◌, pos, length, get_or, take};
 ghost use Rattle.lists.specs.Lists.{keep};
 ghost use Rattle.maps.specs.Sums.{when};

@@ -1,5 +1,6 @@
 // Sorted slices: the first entry at a key, the part under one key, and words of scratch.
 #![tactic(auto)]
+
 ghost use Rattle.std.specs.Prelude.{◌≡◌, true, ◌+◌, ◌*◌, ◌-◌, ◌≤◌, ◌<◌, ◌^◌, min, pos, length, get_or, take, drop, set, replicate};
 ghost use Rattle.lists.specs.Lists.{flat, member};
 ghost use Rattle.lists.specs.Entries.{entries, key_of, key_at, keys_ascend};

@@ -1,6 +1,7 @@
 // `matching/mod.rs` of the reference: offsets, results, their comparison, the tests of rates and
 // thresholds; and the scores that the two indexes work out in line.
 #![tactic(auto)]
+
 ghost use Rattle.std.specs.Prelude.{◌≡◌, ◌≤◌, true};
 ghost use Rattle.std.specs.Float.Ieee.Positive.{positive};
 ghost use Rattle.matching.specs.Offsets.{unrounded, in_i64, from_frames, try_from_frames, zero_offset};

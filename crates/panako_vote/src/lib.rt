@@ -2,6 +2,7 @@
 // `normalize_config` of the reference's `panako.rs`, refusal 4, and the inner loop of
 // `PanakoIndex::query`; and a vote as one word.
 #![tactic(auto)]
+
 ghost use Rattle.std.specs.Prelude.{◌≡◌, ◌+◌, ◌-◌, ◌*◌, ◌^◌, ◌<◌, not, ◌&&◌, length, set, pos, ◌+ℤ◌, ◌-ℤ◌, if◌then◌else◌, ◌==◌, nat_lt, unsigned_abs};
 ghost use Rattle.std.specs.Float.Ieee.{lt};
 ghost use Rattle.std.specs.Float.Ieee.Scale.{finite};

@@ -1,5 +1,6 @@
 // Entries of w words in a slice: their words, and the compaction that leaves some of them out.
 #![tactic(auto)]
+
 ghost use Rattle.std.specs.Prelude.{◌≡◌, cond, [], ◌∷◌, ℕ, ◌+◌, ◌*◌, ◌≤◌, ◌<◌, ◌^◌, min, length, get_or, take, eqb};
 ghost use Rattle.lists.specs.Lists.{member};
 ghost use Rattle.postings.specs.Retain.{Within, Names, Until, Listed, Noted, staying, retained};

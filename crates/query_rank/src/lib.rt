@@ -1,5 +1,6 @@
 // The verdicts on a query's candidates, one by one, the best of them, and the query's answer.
 #![tactic(auto)]
+
 ghost use Rattle.std.specs.Prelude.{◌≡◌};
 ghost use Rattle.std.proofs.Math.Option.{some};
 ghost use Rattle.model.specs.Query.{track_best};

@@ -1,5 +1,6 @@
 // Where the postings of each query hash begin and end, whose postings vote, and how many do.
 #![tactic(auto)]
+
 ghost use Rattle.std.specs.Prelude.{◌≡◌, ℕ, ◌+◌, ◌-◌, ◌*◌, ◌/◌, ◌^◌, ◌<◌, ◌≤◌, min, true, ◌&&◌, length, drop, ◌==◌, nat_lt, slice_index};
 ghost use Rattle.lists.specs.Lists.{flat};
 ghost use Rattle.lists.specs.Keys.{under};

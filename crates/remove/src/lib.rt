@@ -1,5 +1,6 @@
 // live_count and remove on the lent store. The width w of a posting is 3 (Wang) or 5 (Panako).
 #![tactic(auto)]
+
 ghost use Rattle.std.specs.Prelude.{◌≡◌, ◌+◌, ◌*◌, ◌≤◌, length, get_or, eqb};
 ghost use Rattle.postings.specs.Retain.{Listed};
 ghost use Rattle.model.specs.Soundness.{live_id};

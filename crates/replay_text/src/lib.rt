@@ -1,5 +1,6 @@
 // The lines of the list that the program replay runs on: words as text, and a line's words beside those that are held.
 #![tactic(auto)]
+
 mod contents;
 
 ghost use Rattle.std.specs.Prelude.{◌≡◌, true, ◌+◌, ◌*◌, ◌%◌, ◌^◌, ◌≤◌, ◌<◌, length, get_or, take};

@@ -1,5 +1,6 @@
 // The references' words: the header, rows and vacant entries; what a fingerprint's words say.
 #![tactic(auto)]
+
 ghost use Rattle.std.specs.Prelude.{◌≡◌, cond, map, ◌+◌, ◌*◌, ◌<◌, ◌≤◌, max, length, set as set_at};
 ghost use Rattle.lists.specs.Entries.{entries};
 ghost use Rattle.model.specs.Fingerprints.{hash_of, hashes_of, malformed};

@@ -1,5 +1,6 @@
 // The kinds of records, and which lengths are good for them.
 #![tactic(auto)]
+
 ghost use Rattle.std.specs.Prelude.{◌≡◌};
 ghost use Rattle.sheet_kinds.specs.Kinds.{fits_by, good_length};
 

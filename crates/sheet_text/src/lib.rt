@@ -1,6 +1,7 @@
 // Words read from bytes (fields.rt), and texts written into a lent buffer: each function puts its text behind the first `at` bytes and answers
 // where it ends.
 #![tactic(auto)]
+
 mod fields;
 
 ghost use Rattle.std.specs.Prelude.{◌≡◌, [], ◌∷◌, ◌++◌, ◌+◌, ◌≤◌, ◌<◌, length};

@@ -1,5 +1,6 @@
 // Signed numbers of 64 bits: magnitude, sign and order.
 #![tactic(auto)]
+
 ghost use Rattle.std.specs.Prelude.{◌≡◌, nat_abs};
 ghost use Rattle.std.specs.Int.Signed.{non_neg, le_z, lt_z};
 

@@ -1,5 +1,6 @@
 // Words of a slice: read, widened, copied, moved, zeroed.
 #![tactic(auto)]
+
 ghost use Rattle.std.specs.Prelude.{◌≡◌, ◌++◌, ◌+◌, ◌-◌, ◌≤◌, ◌<◌, ◌^◌, length, get_or, take, replicate};
 ghost use Rattle.lists.specs.Entries.{zero_from};
 ghost use Rattle.slices.specs.Parts.{pasted, cleared};

@@ -1,5 +1,6 @@
 // Whether a store's slices have lengths that are listed, and whether their words are sound: one scan.
 #![tactic(auto)]
+
 ghost use Rattle.std.specs.Prelude.{◌≡◌, true, cond, ◌&&◌, ◌+◌, ◌*◌, ◌-◌, ◌/◌, ◌^◌, ◌<◌, ◌≤◌, length, get_or, ltb, eqb};
 ghost use Rattle.lists.specs.Every.{every, count};
 ghost use Rattle.lists.specs.Entries.{key_at, keys_ascend};

@@ -1,6 +1,7 @@
 // One candidate of a Wang query, judged from its sorted votes: the body of the loop over candidates in
 // `WangIndex::query` of the reference.
 #![tactic(auto)]
+
 ghost use Rattle.std.specs.Prelude.{◌≡◌, ◌+◌, ◌*◌, ◌≤◌, ◌<◌, ◌^◌, pos, neg_ℤ, nat_abs, ◌+ℤ◌, T, length, drop};
 ghost use Rattle.std.specs.Int.Signed.{non_neg};
 ghost use Rattle.maps.specs.Words.{SameOutside};

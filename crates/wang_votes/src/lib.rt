@@ -1,5 +1,6 @@
 // The votes of a Wang query, gathered as words into lent scratch.
 #![tactic(auto)]
+
 ghost use Rattle.std.specs.Prelude.{◌≡◌, true, cond, ◌++◌, ◌+◌, ◌*◌, ◌-◌, ◌≤◌, ◌<◌, ◌^◌, pos, ltb, length, get_or, take, drop, set};
 ghost use Rattle.lists.specs.Keys.{under};
 ghost use Rattle.lists.specs.Entries.{entries, entry_at, key_of, keys_ascend};
