@@ -1,5 +1,6 @@
 // The build of a lent store: all hashes at once, in place of what it held.
 #![tactic(auto)]
+
 ghost use Rattle.std.specs.Prelude.{◌≡◌, not, ◌||◌, ◌∷◌, ◌+◌, ◌*◌, ◌-◌, ◌≤◌, ◌<◌, eqb, ltb, length};
 ghost use Rattle.lists.specs.Lists.{sum, some?, flat};
 ghost use Rattle.lists.specs.Entries.{padded};

@@ -1,6 +1,7 @@
 // One candidate of a Panako query, judged from its sorted votes: the body of the loop over candidates in
 // `PanakoIndex::query` of the reference.
 #![tactic(auto)]
+
 ghost use Rattle.std.specs.Prelude.{◌≡◌, ◌+◌, ◌*◌, ◌≤◌, ◌<◌, length, take};
 ghost use Rattle.maps.specs.Words.{SameOutside};
 ghost use Rattle.query_rank.specs.Verdicts.{verdict_of};

@@ -1,5 +1,6 @@
 // The refusals of a query that come before its votes are counted: 1 to 4 and 9, of either index.
 #![tactic(auto)]
+
 ghost use Rattle.std.specs.Prelude.{◌≡◌, ◌≤◌};
 ghost use Rattle.model.specs.Calls.{scratch_listed};
 ghost use Rattle.soundness.specs.Scan.{words};

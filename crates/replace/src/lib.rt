@@ -1,5 +1,6 @@
 // The replacement of a recording in a lent store: its old take goes, and a new one is stored under its id and set.
 #![tactic(auto)]
+
 ghost use Rattle.std.specs.Prelude.{◌≡◌, ◌≤◌, length, get_or};
 ghost use Rattle.model.specs.Run.{run_replace};
 ghost use Rattle.postings.specs.Retain.{Noted};

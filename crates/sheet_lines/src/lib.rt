@@ -1,5 +1,6 @@
 // The lines of answers, each put behind the first `at` bytes of a lent buffer.
 #![tactic(auto)]
+
 ghost use Rattle.std.specs.Prelude.{◌≡◌, ◌++◌, ℕ, ◌+◌, ◌≤◌, length};
 ghost use Rattle.model.specs.Calls.{removed, nothing};
 ghost use Rattle.insert.specs.Insert.{insertion_answer};

@@ -13,68 +13,68 @@ use Rattle.build.proofs.Tests.{long, some-none, some_more, too_long, too_many, j
 use Rattle.build.proofs.lengths_fit.Statement.{statement}
 use Rattle.build.proofs.lengths_fit.Tie as tie
 
-abbrev invariant-loop : tie.invariant-loop
+abbrev invariant-loop : tie.invariant-loop-i
 invariant-loop lengths m total₀ i₀ total i =
     (i ≤ length lengths) × (total ≡ sum (take i lengths)) × (total ≤ m) × (some? long (take i lengths) ≡ false)
 
-abbrev decreases-loop : tie.decreases-loop
+abbrev decreases-loop : tie.decreases-loop-i
 decreases-loop lengths m total₀ i₀ total i =
     length lengths - i
 
-loop-holds : tie.Need-loop-init invariant-loop decreases-loop
+loop-holds : tie.Need-loop-i-init invariant-loop decreases-loop
 loop-holds c =
     (omega arith, sym sum-none, omega arith, some-none long)
 
 at-requires : tie.Need-at-requires invariant-loop decreases-loop
 at-requires c κs = search rules
 
-size-requires : tie.Need-size-requires invariant-loop decreases-loop
+size-requires : tie.Need-size-n-requires invariant-loop decreases-loop
 size-requires c κs = search rules
 
-returns : tie.Need-returns invariant-loop decreases-loop
+returns : tie.Need-returns-then-n-gt8192 invariant-loop decreases-loop
 returns c =
-    let s = c.before.before.before.before.before.before in
-    let l = c.before.before.before.before.loop in
-    too_long s.args.lengths.now s.args.m l.i c.before.before.before.loop-test.true (omega (arith, c.before.size.ensures, c.before.before.at.ensures))
+    let s = c in
+    let l = c.loop-i in
+    too_long s.args.lengths.now s.args.m l.i c.loop-i-test.true (omega (arith, c.size-n.ensures, c.at.ensures))
 
-sub-if2 : tie.Need-overflow-sub-if2 invariant-loop decreases-loop
+sub-if2 : tie.Need-overflow_sub-m invariant-loop decreases-loop
 sub-if2 c = search rules
 
-returns-2 : tie.Need-returns-2 invariant-loop decreases-loop
+returns-2 : tie.Need-returns-then-m-total invariant-loop decreases-loop
 returns-2 c =
-    let s = c.before.before.before.before.before.before.before in
-    let l = c.before.before.before.before.before.loop in
-    too_many s.args.lengths.now s.args.m l.i c.before.before.before.before.loop-test.true (omega (arith, c.before.before.size.ensures, c.before.before.before.at.ensures, l.invariant.1))
+    let s = c in
+    let l = c.loop-i in
+    too_many s.args.lengths.now s.args.m l.i c.loop-i-test.true (omega (arith, c.size-n.ensures, c.at.ensures, l.invariant.1))
 
-add_total : tie.Need-overflow-add-total invariant-loop decreases-loop
+add_total : tie.Need-overflow_add-total invariant-loop decreases-loop
 add_total c = search rules
 
-add-i : tie.Need-overflow-add-i invariant-loop decreases-loop
+add-i : tie.Need-overflow_add-i invariant-loop decreases-loop
 add-i c = search rules
 
-loop-less : tie.Need-loop-smaller invariant-loop decreases-loop
+loop-less : tie.Need-loop-i-smaller invariant-loop decreases-loop
 loop-less c = search rules
 
-loop-again : tie.Need-loop-preserved invariant-loop decreases-loop
+loop-again : tie.Need-loop-i-preserved invariant-loop decreases-loop
 loop-again c =
-    let s = c.before.before.before.before.before.before.before in
-    let l = c.before.before.before.before.before.loop in
-    let e = c.before.before.size.ensures in
-    let f = c.before.before.before.at.ensures in (
+    let s = c in
+    let l = c.loop-i in
+    let e = c.size-n.ensures in
+    let f = c.at.ensures in (
       omega arith,
-      omega (arith, e, f, l.invariant.1, sum_more s.args.lengths.now l.i c.before.before.before.before.loop-test.true),
+      omega (arith, e, f, l.invariant.1, sum_more s.args.lengths.now l.i c.loop-i-test.true),
       omega arith,
-      some_more long s.args.lengths.now l.i c.before.before.before.before.loop-test.true l.invariant.3 (le-ltb 8192 (get_or s.args.lengths.now l.i 0) (omega (arith, e, f))),
+      some_more long s.args.lengths.now l.i c.loop-i-test.true l.invariant.3 (le-ltb 8192 (get_or s.args.lengths.now l.i 0) (omega (arith, e, f))),
     )
 
-returns-3 : tie.Need-returns-3 invariant-loop decreases-loop
+returns-3 : tie.Need-returns invariant-loop decreases-loop
 returns-3 c =
-    let s = c.before.before.before in
-    let l = c.before.loop in
-    ap (λ (n : ℕ). eqb n s.args.m) l.invariant.1 ∙ just-many s.args.lengths.now s.args.m l.i c.loop-test.false l.invariant.3
+    let s = c in
+    let l = c.loop-i in
+    ap (λ (n : ℕ). eqb n s.args.m) l.invariant.1 ∙ just-many s.args.lengths.now s.args.m l.i c.loop-i-test.false l.invariant.3
 
-pub lengths-fit-spec : {M : Type 1} → statement M
-lengths-fit-spec =
+pub lengths_fit_spec : {M : Type 1} → statement M
+lengths_fit_spec =
     tie.close
     (tie.spec
     invariant-loop

@@ -8,13 +8,13 @@ use Rattle.panako_judge.proofs.result.Tie as tie
 wide-requires : tie.Need-wide-requires
 wide-requires c κs = search rules
 
-panako-peak-offset-requires : tie.Need-panako-peak-offset-requires
+panako-peak-offset-requires : tie.Need-panako_peak_offset-frames-requires
 panako-peak-offset-requires c κs = search rules
 
-scale-at-requires : tie.Need-scale-at-requires
+scale-at-requires : tie.Need-scale_at-requires
 scale-at-requires c κs = search rules
 
-time-scale-of-requires : tie.Need-time-scale-of-requires
+time-scale-of-requires : tie.Need-time_scale_of-scale-requires
 time-scale-of-requires c κs = search rules
 
 result-requires : tie.Need-result-requires
@@ -22,15 +22,15 @@ result-requires c κs = search rules
 
 returns : tie.Need-returns
 returns c =
-    let f = c.before.before.before.panako-peak-offset in
-    let o = c.before.before.before.before.before.before in
-    let w = c.before.before.before.before.wide in
-    let e = read_is f.result f.type-inv ∙ rw w.ensures.0 at f.ensures in
-    let g = rw c.before.before.scale_at.ensures.0 at c.before.time-scale-of.ensures in
+    let f = c.panako_peak_offset-frames in
+    let o = c in
+    let w = c.wide in
+    let e = read_is f.result f.type_inv ∙ rw w.ensures.0 at f.ensures in
+    let g = rw c.scale_at.ensures.0 at c.time_scale_of-scale.ensures in
     rw (e, g) at c.result.ensures
 
-pub result-spec : {M : Type 1} → statement M
-result-spec =
+pub result_spec : {M : Type 1} → statement M
+result_spec =
     tie.close
     (tie.spec
     wide-requires

@@ -11,32 +11,32 @@ use borrow.Author.Rules.{rules}
 use Rattle.panako_judge.proofs.sum_and_weigh.Statement.{statement}
 use Rattle.panako_judge.proofs.sum_and_weigh.Tie as tie
 
-abbrev start : tie.After-put-sums → tie.Start
+abbrev start : tie.After-put_sums → tie.Start
 start c = c.before.before.before.before
 
 wide-requires : tie.Need-wide-requires
 wide-requires c κs = search rules
 
-put-sums-requires : tie.Need-put-sums-requires
-put-sums-requires c κs = let o = c.before.before.before in (o.requires.0, omega (arith, c.wide.ensures.0, o.requires.2))
+put-sums-requires : tie.Need-put_sums-requires
+put-sums-requires c κs = let o = c in (o.requires.0, omega (arith, c.wide.ensures.0, o.requires.2))
 
 weigh-requires : tie.Need-weigh-requires
 weigh-requires c κs =
-    let p = c.before.before in
+    let p = c.before in
     let o = start p in
-    let m = p.put-sums in
-    (roomy-kept o.args.s.now m.new.0 o.args.n m.auto.0 m.ensures.kept o.pre.0, o.pre.1, o.pre.2, rw p.before.wide.ensures.0 at m.ensures.sums)
+    let m = p.put_sums in
+    (roomy-kept o.args.s.now m.new.s o.args.n m.auto.s m.ensures.kept o.requires.0, o.requires.1, o.requires.2, rw p.wide.ensures.0 at m.ensures.sums)
 
-same_length : tie.Need-same-length
+same_length : tie.Need-shape_of-s
 same_length c = search rules
 
 returns : tie.Need-returns
 returns c =
-    let p = c.before.before.before in
+    let p = c.before.before in
     let o = start p in
     let q = o.args.q in
     c.weigh.ensures
-    ∙ ap (λ (l : List ℤ). verdict_of (passing (peak_gates (thresholds_of q) (at_peak (seen_of q l o.args.n))) (result_of q o.args.fps (seen_of q l o.args.n)))) p.put-sums.ensures.kept.bins
+    ∙ ap (λ (l : List ℤ). verdict_of (passing (peak_gates (thresholds_of q) (at_peak (seen_of q l o.args.n))) (result_of q o.args.fps (seen_of q l o.args.n)))) p.put_sums.ensures.kept.bins
 
-pub sum-and-weigh-spec : {M : Type 1} → statement M
-sum-and-weigh-spec = tie.close (tie.spec wide-requires put-sums-requires weigh-requires same_length returns)
+pub sum_and_weigh_spec : {M : Type 1} → statement M
+sum_and_weigh_spec = tie.close (tie.spec wide-requires put-sums-requires weigh-requires same_length returns)

@@ -6,24 +6,24 @@ use borrow.Author.Rules.{rules}
 use Rattle.panako_judge.proofs.time_scale_of.Statement.{statement}
 use Rattle.panako_judge.proofs.time_scale_of.Tie as tie
 
-scale-grid-requires : tie.Need-scale-grid-requires
+scale-grid-requires : tie.Need-scale_grid-grid-requires
 scale-grid-requires c κs = search rules
 
-cast-scale-centre : tie.Need-overflow-cast-scale-centre
+cast-scale-centre : tie.Need-overflow_cast-bin
 cast-scale-centre c = search rules
 
-scale-centre-requires : tie.Need-scale-centre-requires
+scale-centre-requires : tie.Need-scale_centre-requires
 scale-centre-requires c κs = search rules
 
-time-scale-requires : tie.Need-time-scale-requires
+time-scale-requires : tie.Need-time_scale-requires
 time-scale-requires c κs = search rules
 
 returns : tie.Need-returns
 unfolding time_scale_of grid_of
-returns c = rw (c.time-scale.ensures, c.before.scale-centre.ensures, c.before.before.scale-grid.ensures.0) refl
+returns c = rw (c.time_scale.ensures, c.scale_centre.ensures, c.scale_grid-grid.ensures.0) refl
 
-pub time-scale-of-spec : {M : Type 1} → statement M
-time-scale-of-spec =
+pub time_scale_of_spec : {M : Type 1} → statement M
+time_scale_of_spec =
     tie.close
     (tie.spec
     scale-grid-requires

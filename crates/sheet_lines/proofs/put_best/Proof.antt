@@ -5,17 +5,17 @@ use borrow.Author.Rules.{rules}
 use Rattle.sheet_lines.proofs.put_best.Statement.{statement}
 use Rattle.sheet_lines.proofs.put_best.Tie as tie
 
-put-match-requires : tie.Need-put-match-requires
+put-match-requires : tie.Need-put_match-end-requires
 put-match-requires c κs = search rules
 
-put-byte-requires : tie.Need-put-byte-requires
+put-byte-requires : tie.Need-put_byte-requires
 put-byte-requires c κs = search rules
 
-same_length : tie.Need-same-length
+same_length : tie.Need-shape_of-line
 same_length c = search rules
 
 returns : tie.Need-returns
-returns c = let p = c.before.before.before.before.before.before.put-match.ensures in let q = c.before.before.put_byte.ensures in (join p.0 q, omega (arith, p.1, q.ends))
+returns c = let p = c.put_match-end.ensures in let q = c.put_byte.ensures in (join p.0 q, omega (arith, p.1, q.ends))
 
-pub put-best-spec : {M : Type 1} → statement M
-put-best-spec = tie.close (tie.spec put-match-requires put-byte-requires same_length returns)
+pub put_best_spec : {M : Type 1} → statement M
+put_best_spec = tie.close (tie.spec put-match-requires put-byte-requires same_length returns)

@@ -8,29 +8,29 @@ use borrow.Author.Rules.{rules}
 use Rattle.sheet_lines.proofs.put_removed.Statement.{statement}
 use Rattle.sheet_lines.proofs.put_removed.Tie as tie
 
-digit-of-requires : tie.Need-digit-of-requires
+digit-of-requires : tie.Need-digit_of-mark-requires
 digit-of-requires c κs = search rules
 
-put-byte-requires : tie.Need-put-byte-requires
+put-byte-requires : tie.Need-put_byte-a-requires
 put-byte-requires c κs = search rules
 
-put-number-requires : tie.Need-put-number-requires
+put-number-requires : tie.Need-put_number-b-requires
 put-number-requires c κs = search rules
 
-put-letter-requires : tie.Need-put-letter-requires
+put-letter-requires : tie.Need-put_letter-c-requires
 put-letter-requires c κs = search rules
 
-put-byte-requires-2 : tie.Need-put-byte-requires-2
+put-byte-requires-2 : tie.Need-put_byte-requires
 put-byte-requires-2 c κs = search rules
 
-same_length : tie.Need-same-length
+same_length : tie.Need-shape_of-line
 same_length c = search rules
 
 returns : tie.Need-returns
-returns c = let p = c.before.before.before.before.before.before.before.before.before.before.before.before.before.before.put_byte.ensures in let q = c.before.before.before.before.before.before.before.before.before.before.put-number.ensures in let r = c.before.before.before.before.before.before.put-letter.ensures in let s = c.before.before.put-byte2.ensures in (as-text (join (join (join p q.0) r.0) s) (ap (λ d. 68 ∷ [] ++ field (decimal c.before.before.before.before.before.before.before.before.before.before.before.before.before.before.before.before.before.before.args.id) ++ field (d ∷ []) ++ newline) c.before.before.before.before.before.before.before.before.before.before.before.before.before.before.before.before.digit-of.ensures), omega (arith, p.ends, q.1, r.1, s.ends))
+returns c = let p = c.put_byte-a.ensures in let q = c.put_number-b.ensures in let r = c.put_letter-c.ensures in let s = c.put_byte.ensures in (as-text (join (join (join p q.0) r.0) s) (ap (λ d. 68 ∷ [] ++ field (decimal c.args.id) ++ field (d ∷ []) ++ newline) c.digit_of-mark.ensures), omega (arith, p.ends, q.1, r.1, s.ends))
 
-pub put-removed-spec : {M : Type 1} → statement M
-put-removed-spec =
+pub put_removed_spec : {M : Type 1} → statement M
+put_removed_spec =
     tie.close
     (tie.spec
     digit-of-requires
