@@ -3,7 +3,7 @@
 ghost use Rattle.std.specs.Prelude.{◌≡◌, length};
 ghost use Rattle.model.specs.Calls.{build, insert, remove, replace, live_count, query};
 ghost use Rattle.model.specs.Run.{run};
-ghost use Rattle.soundness.specs.Scan.{lent, words};
+ghost use Rattle.soundness.specs.Scan.{lent};
 ghost use Rattle.build.specs.Answers.{building_answer};
 ghost use Rattle.insert.specs.Insert.{insertion_answer};
 ghost use Rattle.remove.specs.Answers.{count_answer, removal_answer};
@@ -116,8 +116,7 @@ fn put_finding(answer: &mut [u64; 8], r: Finding)
 
 // ---- the calls
 
-#[unsafe(no_mangle)]
-pub extern "C" fn wang_index_build(
+pub fn wang_index_build(
     refs: &mut [u32],
     postings: &mut [u32],
     stopped: &mut [u32],
@@ -128,8 +127,8 @@ pub extern "C" fn wang_index_build(
     sets: &[u32],
     answer: &mut [u64; 8],
 )
-    ensures { (answer.new, words refs.new postings.new stopped.new)
-        ≡ in_words (run wang (words refs.old postings.old stopped.old)
+    ensures { (answer.new, lent refs.exit postings.exit stopped.exit)
+        ≡ in_words (run wang (lent refs.entry postings.entry stopped.entry)
         (build limit hashes.now lengths.now rates.now sets.now)) }
 {
     put_building(
@@ -138,8 +137,7 @@ pub extern "C" fn wang_index_build(
     );
 }
 
-#[unsafe(no_mangle)]
-pub extern "C" fn wang_index_insert(
+pub fn wang_index_insert(
     refs: &mut [u32],
     postings: &mut [u32],
     stopped: &mut [u32],
@@ -149,8 +147,8 @@ pub extern "C" fn wang_index_insert(
     set: u32,
     answer: &mut [u64; 8],
 )
-    ensures { (answer.new, words refs.new postings.new stopped.new)
-        ≡ in_words (run wang (words refs.old postings.old stopped.old) (insert limit rate set hashes.now)) }
+    ensures { (answer.new, lent refs.exit postings.exit stopped.exit)
+        ≡ in_words (run wang (lent refs.entry postings.entry stopped.entry) (insert limit rate set hashes.now)) }
 {
     put_insertion(
         answer,
@@ -158,22 +156,20 @@ pub extern "C" fn wang_index_insert(
     );
 }
 
-#[unsafe(no_mangle)]
-pub extern "C" fn wang_index_remove(
+pub fn wang_index_remove(
     refs: &mut [u32],
     postings: &mut [u32],
     stopped: &mut [u32],
     id: u32,
     answer: &mut [u64; 8],
 )
-    ensures { (answer.new, words refs.new postings.new stopped.new)
-        ≡ in_words (run wang (words refs.old postings.old stopped.old) (remove id)) }
+    ensures { (answer.new, lent refs.exit postings.exit stopped.exit)
+        ≡ in_words (run wang (lent refs.entry postings.entry stopped.entry) (remove id)) }
 {
     put_removal(answer, WangIndex::remove(refs, postings, stopped, id));
 }
 
-#[unsafe(no_mangle)]
-pub extern "C" fn wang_index_replace(
+pub fn wang_index_replace(
     refs: &mut [u32],
     postings: &mut [u32],
     stopped: &mut [u32],
@@ -183,8 +179,8 @@ pub extern "C" fn wang_index_replace(
     limit: u32,
     answer: &mut [u64; 8],
 )
-    ensures { (answer.new, words refs.new postings.new stopped.new)
-        ≡ in_words (run wang (words refs.old postings.old stopped.old) (replace id limit rate hashes.now)) }
+    ensures { (answer.new, lent refs.exit postings.exit stopped.exit)
+        ≡ in_words (run wang (lent refs.entry postings.entry stopped.entry) (replace id limit rate hashes.now)) }
 {
     put_insertion(
         answer,
@@ -192,21 +188,14 @@ pub extern "C" fn wang_index_replace(
     );
 }
 
-#[unsafe(no_mangle)]
-pub extern "C" fn wang_index_live_count(
-    refs: &[u32],
-    postings: &[u32],
-    stopped: &[u32],
-    answer: &mut [u64; 8],
-)
+pub fn wang_index_live_count(refs: &[u32], postings: &[u32], stopped: &[u32], answer: &mut [u64; 8])
     ensures { (answer.new, lent refs.entry postings.entry stopped.entry)
         ≡ in_words (run wang (lent refs.entry postings.entry stopped.entry) live_count) }
 {
     put_count(answer, WangIndex::live_count(refs, postings, stopped));
 }
 
-#[unsafe(no_mangle)]
-pub extern "C" fn wang_index_query(
+pub fn wang_index_query(
     refs: &[u32],
     postings: &[u32],
     stopped: &[u32],
@@ -232,8 +221,7 @@ pub extern "C" fn wang_index_query(
     );
 }
 
-#[unsafe(no_mangle)]
-pub extern "C" fn panako_index_build(
+pub fn panako_index_build(
     refs: &mut [u32],
     postings: &mut [u32],
     stopped: &mut [u32],
@@ -244,8 +232,8 @@ pub extern "C" fn panako_index_build(
     sets: &[u32],
     answer: &mut [u64; 8],
 )
-    ensures { (answer.new, words refs.new postings.new stopped.new)
-        ≡ in_words (run panako (words refs.old postings.old stopped.old)
+    ensures { (answer.new, lent refs.exit postings.exit stopped.exit)
+        ≡ in_words (run panako (lent refs.entry postings.entry stopped.entry)
         (build limit hashes.now lengths.now rates.now sets.now)) }
 {
     put_building(
@@ -254,8 +242,7 @@ pub extern "C" fn panako_index_build(
     );
 }
 
-#[unsafe(no_mangle)]
-pub extern "C" fn panako_index_insert(
+pub fn panako_index_insert(
     refs: &mut [u32],
     postings: &mut [u32],
     stopped: &mut [u32],
@@ -265,8 +252,8 @@ pub extern "C" fn panako_index_insert(
     set: u32,
     answer: &mut [u64; 8],
 )
-    ensures { (answer.new, words refs.new postings.new stopped.new)
-        ≡ in_words (run panako (words refs.old postings.old stopped.old) (insert limit rate set hashes.now)) }
+    ensures { (answer.new, lent refs.exit postings.exit stopped.exit)
+        ≡ in_words (run panako (lent refs.entry postings.entry stopped.entry) (insert limit rate set hashes.now)) }
 {
     put_insertion(
         answer,
@@ -274,22 +261,20 @@ pub extern "C" fn panako_index_insert(
     );
 }
 
-#[unsafe(no_mangle)]
-pub extern "C" fn panako_index_remove(
+pub fn panako_index_remove(
     refs: &mut [u32],
     postings: &mut [u32],
     stopped: &mut [u32],
     id: u32,
     answer: &mut [u64; 8],
 )
-    ensures { (answer.new, words refs.new postings.new stopped.new)
-        ≡ in_words (run panako (words refs.old postings.old stopped.old) (remove id)) }
+    ensures { (answer.new, lent refs.exit postings.exit stopped.exit)
+        ≡ in_words (run panako (lent refs.entry postings.entry stopped.entry) (remove id)) }
 {
     put_removal(answer, PanakoIndex::remove(refs, postings, stopped, id));
 }
 
-#[unsafe(no_mangle)]
-pub extern "C" fn panako_index_replace(
+pub fn panako_index_replace(
     refs: &mut [u32],
     postings: &mut [u32],
     stopped: &mut [u32],
@@ -299,8 +284,8 @@ pub extern "C" fn panako_index_replace(
     limit: u32,
     answer: &mut [u64; 8],
 )
-    ensures { (answer.new, words refs.new postings.new stopped.new)
-        ≡ in_words (run panako (words refs.old postings.old stopped.old) (replace id limit rate hashes.now)) }
+    ensures { (answer.new, lent refs.exit postings.exit stopped.exit)
+        ≡ in_words (run panako (lent refs.entry postings.entry stopped.entry) (replace id limit rate hashes.now)) }
 {
     put_insertion(
         answer,
@@ -308,8 +293,7 @@ pub extern "C" fn panako_index_replace(
     );
 }
 
-#[unsafe(no_mangle)]
-pub extern "C" fn panako_index_live_count(
+pub fn panako_index_live_count(
     refs: &[u32],
     postings: &[u32],
     stopped: &[u32],
@@ -344,8 +328,7 @@ pub fn panako_config(
     }
 }
 
-#[unsafe(no_mangle)]
-pub extern "C" fn panako_index_query(
+pub fn panako_index_query(
     refs: &[u32],
     postings: &[u32],
     stopped: &[u32],

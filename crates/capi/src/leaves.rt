@@ -16,8 +16,7 @@ use panako_vote::CheckedVote;
 
 // Sorts the first n words, with the next n as room, and says 1. Without that room it says 0, and
 // nothing is changed. What the room holds afterwards is left open.
-#[unsafe(no_mangle)]
-pub extern "C" fn sorting_sort_words(words: &mut [i64], n: usize) -> u32
+pub fn sorting_sort_words(words: &mut [i64], n: usize) -> u32
     ensures value { result ≡ flag (room_for n words.old) }
     ensures sorted { room_for n words.old ≡ true → (take n words.new ≡ sort_z (take n words.old))
         × (drop (n + n) words.new ≡ drop (n + n) words.old) }
@@ -31,8 +30,7 @@ pub extern "C" fn sorting_sort_words(words: &mut [i64], n: usize) -> u32
 }
 
 // 1: no count is positive; 2: the mode.
-#[unsafe(no_mangle)]
-pub extern "C" fn consolidate_mode_offset(bins: &[i64], answer: &mut [u64; 8])
+pub fn consolidate_mode_offset(bins: &[i64], answer: &mut [u64; 8])
     ensures { answer.new ≡ mode_words (checked_mode bins.now (length bins.now / 2)) }
 {
     match consolidate::checked_mode_offset(bins, bins.len() / 2) {
@@ -52,8 +50,7 @@ pub extern "C" fn consolidate_mode_offset(bins: &[i64], answer: &mut [u64; 8])
 }
 
 // 1: peak, centre, mode, total.
-#[unsafe(no_mangle)]
-pub extern "C" fn consolidate_sparse_wang_box_peak(
+pub fn consolidate_sparse_wang_box_peak(
     bins: &[i64],
     tol: u64,
     low: i64,
@@ -76,8 +73,7 @@ pub extern "C" fn consolidate_sparse_wang_box_peak(
 
 // 1: peak, the index of its bin, its offset, its prominence. Of n bins, with the next n words for their
 // sums. Where it says 0, the words stay as they are.
-#[unsafe(no_mangle)]
-pub extern "C" fn hough_panako_peak(words: &mut [i64], n: usize, tol: u64, answer: &mut [u64; 8])
+pub fn hough_panako_peak(words: &mut [i64], n: usize, tol: u64, answer: &mut [u64; 8])
     ensures answer_after { answer.new ≡ hough_words (checked_answer words.old n tol) }
     ensures left_after { LeftAfter (checked_answer words.old n tol) words.old words.new n tol }
 {
@@ -96,8 +92,7 @@ pub extern "C" fn hough_panako_peak(words: &mut [i64], n: usize, tol: u64, answe
 }
 
 // Whether the settings that a vote depends on lie within the limits, then the scale ends and bins, all after `normalize_config`.
-#[unsafe(no_mangle)]
-pub extern "C" fn panako_normalize_config(
+pub fn panako_normalize_config(
     scale_min: u32,
     scale_max: u32,
     scale_bins: u32,
@@ -116,8 +111,7 @@ pub extern "C" fn panako_normalize_config(
 }
 
 // 1: no vote; 2: scale bin, offset.
-#[unsafe(no_mangle)]
-pub extern "C" fn panako_pair_vote(
+pub fn panako_pair_vote(
     scale_min: u32,
     scale_max: u32,
     scale_bins: u32,

@@ -1,8 +1,9 @@
-// The C interface of the library. Floats pass as their bit patterns, a NaN's being 7FC00000 or
-// 7FF8000000000000 (hexadecimal) where it is a result; a slice passes as a pointer and a length.
+// The C interface of the library, which crate `capi_c` exports. Floats pass as their bit patterns, a NaN's being
+// 7FC00000 or 7FF8000000000000 (hexadecimal) where it is a result; to C a slice passes as a pointer and a length.
 #![tactic(auto)]
+
 pub mod index;
-mod leaves;
+pub mod leaves;
 
 ghost use Rattle.std.specs.Prelude.{◌≡◌, [], ◌∷◌, pos, to_bits};
 ghost use Rattle.std.specs.Float.{binary32, binary64};
@@ -33,16 +34,14 @@ fn word_of(x: i64) -> u64
     x as u64
 }
 
-#[unsafe(no_mangle)]
-pub extern "C" fn floats_u64_to_f32(n: u64) -> u32
+pub fn floats_u64_to_f32(n: u64) -> u32
     ensures { result ≡ to_bits binary32 (of_int binary32 (pos n)) }
 {
     f32::to_bits(floats::u64_to_f32(n))
 }
 
 // A NaN's pattern for an x outside 0.5 .. 2.
-#[unsafe(no_mangle)]
-pub extern "C" fn floats_f64_to_f32(x: u64) -> u32
+pub fn floats_f64_to_f32(x: u64) -> u32
     ensures { result ≡ narrow_code (double x) }
 {
     let v = floats::f64_from_bits(x);
@@ -54,36 +53,31 @@ pub extern "C" fn floats_f64_to_f32(x: u64) -> u32
     floats::NAN_BITS
 }
 
-#[unsafe(no_mangle)]
-pub extern "C" fn floats_round_to_i64(x: u64) -> i64
+pub fn floats_round_to_i64(x: u64) -> i64
     ensures { result ≡ round_to_i64 (double x) }
 {
     floats::round_to_i64(floats::f64_from_bits(x))
 }
 
-#[unsafe(no_mangle)]
-pub extern "C" fn floats_max_f32(a: u32, b: u32) -> u32
+pub fn floats_max_f32(a: u32, b: u32) -> u32
     ensures { result ≡ to_bits binary32 (maximum (single a) (single b)) }
 {
     floats::f32_to_bits(floats::max_f32(floats::f32_from_bits(a), floats::f32_from_bits(b)))
 }
 
-#[unsafe(no_mangle)]
-pub extern "C" fn floats_abs_f32(x: u32) -> u32
+pub fn floats_abs_f32(x: u32) -> u32
     ensures { result ≡ to_bits binary32 (abs (single x)) }
 {
     floats::f32_to_bits(floats::abs_f32(floats::f32_from_bits(x)))
 }
 
-#[unsafe(no_mangle)]
-pub extern "C" fn floats_abs_f64(x: u64) -> u64
+pub fn floats_abs_f64(x: u64) -> u64
     ensures { result ≡ to_bits binary64 (abs (double x)) }
 {
     floats::f64_to_bits(floats::abs_f64(floats::f64_from_bits(x)))
 }
 
-#[unsafe(no_mangle)]
-pub extern "C" fn floats_clamp_f32(x: u32, lo: u32, hi: u32) -> u32
+pub fn floats_clamp_f32(x: u32, lo: u32, hi: u32) -> u32
     ensures { result ≡ to_bits binary32 (clamp (single lo) (single hi) (single x)) }
 {
     let l = floats::f32_from_bits(lo);
@@ -91,8 +85,7 @@ pub extern "C" fn floats_clamp_f32(x: u32, lo: u32, hi: u32) -> u32
     floats::f32_to_bits(floats::clamp_f32(floats::f32_from_bits(x), l, h))
 }
 
-#[unsafe(no_mangle)]
-pub extern "C" fn floats_clamp_f64(x: u64, lo: u64, hi: u64) -> u64
+pub fn floats_clamp_f64(x: u64, lo: u64, hi: u64) -> u64
     ensures { result ≡ to_bits binary64 (clamp (double lo) (double hi) (double x)) }
 {
     let l = floats::f64_from_bits(lo);
@@ -101,8 +94,7 @@ pub extern "C" fn floats_clamp_f64(x: u64, lo: u64, hi: u64) -> u64
 }
 
 // The frames, then the milliseconds.
-#[unsafe(no_mangle)]
-pub extern "C" fn matching_from_frames(frames: i64, rate: u32, answer: &mut [i64; 2])
+pub fn matching_from_frames(frames: i64, rate: u32, answer: &mut [i64; 2])
     ensures { answer.new ≡ frames ∷ millis frames (single rate) ∷ [] }
 {
     let t = TimeOffset::from_frames(frames, floats::f32_from_bits(rate));
@@ -111,8 +103,7 @@ pub extern "C" fn matching_from_frames(frames: i64, rate: u32, answer: &mut [i64
 }
 
 // 1, the frames, the milliseconds; zeros where there is no such time.
-#[unsafe(no_mangle)]
-pub extern "C" fn matching_try_from_frames(frames: i64, rate: u32, answer: &mut [i64; 3])
+pub fn matching_try_from_frames(frames: i64, rate: u32, answer: &mut [i64; 3])
     ensures { answer.new ≡ tried_words (try_from_frames frames (single rate)) }
 {
     match TimeOffset::try_from_frames(frames, floats::f32_from_bits(rate)) {
@@ -127,22 +118,19 @@ pub extern "C" fn matching_try_from_frames(frames: i64, rate: u32, answer: &mut 
     }
 }
 
-#[unsafe(no_mangle)]
-pub extern "C" fn matching_frames_per_sec_compatible(a: u32, b: u32) -> u32
+pub fn matching_frames_per_sec_compatible(a: u32, b: u32) -> u32
     ensures { result ≡ flag (rates_agree (single a) (single b)) }
 {
     flag_of(matching::frames_per_sec_compatible(floats::f32_from_bits(a), floats::f32_from_bits(b)))
 }
 
-#[unsafe(no_mangle)]
-pub extern "C" fn matching_clamp_score(s: u32) -> u32
+pub fn matching_clamp_score(s: u32) -> u32
     ensures { result ≡ to_bits binary32 (clamp_score (single s)) }
 {
     floats::f32_to_bits(matching::clamp_score(floats::f32_from_bits(s)))
 }
 
-#[unsafe(no_mangle)]
-pub extern "C" fn matching_below_threshold(value: u32, threshold: u32) -> u32
+pub fn matching_below_threshold(value: u32, threshold: u32) -> u32
     ensures { result ≡ flag (below_threshold (single value) (single threshold)) }
 {
     flag_of(matching::below_threshold(
@@ -176,8 +164,7 @@ fn order_code(o: Ordering) -> u32
 }
 
 // 0 less, 1 equal, 2 greater.
-#[unsafe(no_mangle)]
-pub extern "C" fn matching_match_result_compare_desc(
+pub fn matching_match_result_compare_desc(
     a_score: u32,
     a_prominence: u32,
     b_score: u32,
@@ -191,8 +178,7 @@ pub extern "C" fn matching_match_result_compare_desc(
 }
 
 // A NaN's pattern for a peak above the total.
-#[unsafe(no_mangle)]
-pub extern "C" fn matching_wang_prominence(peak: u64, total: u64, width: u64) -> u32
+pub fn matching_wang_prominence(peak: u64, total: u64, width: u64) -> u32
     ensures { result ≡ prominence_code peak total width }
 {
     if peak <= total {
@@ -201,21 +187,14 @@ pub extern "C" fn matching_wang_prominence(peak: u64, total: u64, width: u64) ->
     floats::NAN_BITS
 }
 
-#[unsafe(no_mangle)]
-pub extern "C" fn matching_score(n: u64, hashes: u64) -> u32
+pub fn matching_score(n: u64, hashes: u64) -> u32
     ensures { result ≡ to_bits binary32 (score_of n hashes) }
 {
     floats::f32_to_bits(matching::score(n, hashes))
 }
 
 // The time scale of a peak in a scale bin.
-#[unsafe(no_mangle)]
-pub extern "C" fn matching_time_scale(
-    scale_min: u32,
-    scale_max: u32,
-    scale_bins: u32,
-    bin: u32,
-) -> u32
+pub fn matching_time_scale(scale_min: u32, scale_max: u32, scale_bins: u32, bin: u32) -> u32
     ensures { result ≡ time_scale_code (single scale_min) (single scale_max) scale_bins bin }
 {
     let min = std::num::f32_to_f64_with_nan(floats::f32_from_bits(scale_min));
@@ -225,8 +204,7 @@ pub extern "C" fn matching_time_scale(
 }
 
 // `MatchResult::NONE`: match or not, votes, score, prominence, frames, milliseconds, time scale, 0.
-#[unsafe(no_mangle)]
-pub extern "C" fn matching_none(answer: &mut [u64; 8])
+pub fn matching_none(answer: &mut [u64; 8])
     ensures { answer.new ≡ no_match_words }
 {
     let m = matching::no_match();

@@ -14,11 +14,14 @@
 //              min_prominence, set, hashes: query
 //     A        the last answer's words as the C interface has them, each in two halves; then zeros
 #![tactic(auto)]
+
 mod calls;
 mod text;
 
 ghost use Rattle.std.specs.Prelude.{◌≡◌, ◌<◌};
 
+use std::io;
+use std::io::Stdin;
 use text::Line;
 
 // Stores of at most 40 references, 512 entries of Panako and 64 stopped keys, scratch for 512 votes of Panako, lines of at most 4,224 words.
@@ -173,6 +176,7 @@ fn run_line(
 
 // The next line: it is read and run.
 fn turn(
+    input: Stdin,
     refs: &mut [u32; REFS],
     postings: &mut [u32; POSTINGS],
     stopped: &mut [u32; STOPPED],
@@ -181,19 +185,20 @@ fn turn(
     words: &mut [u32; WORDS],
     text: &mut [u8; TEXT],
     st: State,
-) -> State {
-    match text::read_line(text, words) {
-        Line::End => ended(st),
-        Line::Fault => after(st, 0, false),
-        Line::Of(letter, n) => run_line(
+) -> io::Result<State> {
+    match text::read_line(input, text, words)? {
+        Line::End => Ok(ended(st)),
+        Line::Fault => Ok(after(st, 0, false)),
+        Line::Of(letter, n) => Ok(run_line(
             letter, words, n, refs, postings, stopped, scratch, answer, st,
-        ),
+        )),
     }
 }
 
 // The whole list. A proved loop has to end, and nothing says that the input does: so the turns are counted down, from a number that no run
 // uses up.
 fn run(
+    input: Stdin,
     refs: &mut [u32; REFS],
     postings: &mut [u32; POSTINGS],
     stopped: &mut [u32; STOPPED],
@@ -201,7 +206,7 @@ fn run(
     answer: &mut [u64; 8],
     words: &mut [u32; WORDS],
     text: &mut [u8; TEXT],
-) -> State {
+) -> io::Result<State> {
     let mut st = State {
         lines: 0,
         calls: 0,
@@ -214,27 +219,24 @@ fn run(
     };
     let mut turns = u64::MAX;
     while turns > 0 && st.more {
-        st = turn(refs, postings, stopped, scratch, answer, words, text, st);
+        st = turn(
+            input, refs, postings, stopped, scratch, answer, words, text, st,
+        )?;
         turns -= 1;
     }
-    st
+    Ok(st)
 }
 
-fn report(st: State) {
+fn report(rt: &impl Print, st: State) -> io::Result<()> {
+    let calls = st.calls;
+    let lines = st.lines;
     if st.good {
-        io::write_all(1, b"replay: ");
-        io::print_decimal(1, st.calls);
-        io::write_all(1, b" calls, ");
-        io::print_decimal(1, st.lines);
-        io::write_all(1, b" lines, 0 differences\n");
-        return;
+        return println!(rt; "replay: {calls} calls, {lines} lines, 0 differences");
     }
-    io::write_all(1, b"replay: line ");
-    io::print_decimal(1, st.lines);
-    io::write_all(1, b" differs\n");
+    println!(rt; "replay: line {lines} differs")
 }
 
-fn main() {
+fn main(rt: HostRuntime) -> io::Result<()> {
     let mut refs = [0u32; REFS];
     let mut postings = [0u32; POSTINGS];
     let mut stopped = [0u32; STOPPED];
@@ -243,6 +245,7 @@ fn main() {
     let mut words = [0u32; WORDS];
     let mut text = [0u8; TEXT];
     let st = run(
+        rt.stdin(),
         &mut refs,
         &mut postings,
         &mut stopped,
@@ -250,6 +253,6 @@ fn main() {
         &mut answer,
         &mut words,
         &mut text,
-    );
-    report(st);
+    )?;
+    report(&rt, st)
 }

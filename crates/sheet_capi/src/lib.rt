@@ -1,6 +1,7 @@
 // The sheet of a card that is held in memory, for C. A library of its own: with it in `capi`, a query would have two callers and no longer be laid down
 // inside the one.
 #![tactic(auto)]
+
 ghost use Rattle.std.specs.Prelude.{◌≡◌, false};
 ghost use Rattle.sheet_text.specs.Put.{Put};
 ghost use Rattle.sheet_card.specs.Held.{has_room, held_sheet};

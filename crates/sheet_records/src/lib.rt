@@ -1,5 +1,6 @@
 // The program sheet's step on one record: a record's bytes in, its line out, and the store as the record's call leaves it.
 #![tactic(auto)]
+
 ghost use Rattle.std.specs.Prelude.{◌≡◌, true, ◌+◌, ◌*◌, ◌≤◌, length, get_or};
 ghost use Rattle.model.specs.Run.{run};
 ghost use Rattle.soundness.specs.Scan.{lent, words};

@@ -3,6 +3,7 @@
 // what `run wang` says of the store at entry and the call. That is the model's account of the calls (crate `model`, specs/Run.antt), of
 // which specs/Demand3.antt states the claim about histories.
 #![tactic(auto)]
+
 ghost use Rattle.std.specs.Prelude.{◌≡◌, length};
 ghost use Rattle.model.specs.Calls.{build, insert, remove, replace, live_count, query};
 ghost use Rattle.model.specs.Run.{run};

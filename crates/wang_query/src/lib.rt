@@ -1,5 +1,6 @@
 // The query of WangIndex: votes are counted against the scratch, gathered, sorted, and judged candidate by candidate.
 #![tactic(auto)]
+
 ghost use Rattle.std.specs.Prelude.{◌≡◌, ◌*◌, ◌/◌, ◌≤◌, length, get_or, take};
 ghost use Rattle.model.specs.Fingerprints.{hashes_of};
 ghost use Rattle.model.specs.Run.{run_query};

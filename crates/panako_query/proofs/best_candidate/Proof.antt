@@ -24,11 +24,11 @@ use borrow.Author.Rules.{rules}
 use Rattle.panako_query.proofs.best_candidate.Statement.{statement}
 use Rattle.panako_query.proofs.best_candidate.Tie as tie
 
-gather-requires : tie.Need-gather-requires
-gather-requires c κs = let s = c.before.before.before.before.before.before.before.before in rw (s.requires.1, s.requires.2) (s.requires.0.packable, rw s.requires.1 at s.requires.5, rw s.requires.1 at s.requires.6, s.requires.7, s.requires.8, s.requires.9, omega (arith, s.requires.4))
+gather-requires : tie.Need-gather-v-requires
+gather-requires c κs = let s = c in rw (s.requires.1, s.requires.2) (s.requires.0.packable, rw s.requires.1 at s.requires.5, rw s.requires.1 at s.requires.6, s.requires.7, s.requires.8, s.requires.9, omega (arith, s.requires.4))
 
 -- after the gathering
-module _ (c : tie.After-gather) where
+module _ (c : tie.After-gather-v) where
   abbrev s : tie.Start
   s = c.before.before.before.before.before.before.before.before.before
 
@@ -36,116 +36,116 @@ module _ (c : tie.After-gather) where
   words = words_in s.args.voters s.args.q s.args.refs.now s.args.posts.now s.args.hashes.now
 
   named : votes-of.words s.args.g (voting s.args.voters s.args.refs.now (entries 5 s.args.p s.args.posts.now)) (hashes_in s.args.q s.args.hashes.now) ≡ words
-  named = ap₂ (λ (g : ScaleGrid) (p : ℕ). votes-of.words g (voting s.args.voters s.args.refs.now (entries 5 p s.args.posts.now)) (hashes_in s.args.q s.args.hashes.now)) s.pre.2 s.pre.1
+  named = ap₂ (λ (g : ScaleGrid) (p : ℕ). votes-of.words g (voting s.args.voters s.args.refs.now (entries 5 p s.args.posts.now)) (hashes_in s.args.q s.args.hashes.now)) s.requires.2 s.requires.1
 
-  many : c.gather.result ≡ length words
-  many = c.gather.ensures.0 ∙ ap length named
+  many : c.gather-v.result ≡ length words
+  many = c.gather-v.ensures.0 ∙ ap length named
 
-  gathered : take c.gather.result c.gather.new.0 ≡ words
-  gathered = c.gather.ensures.1 ∙ named
+  gathered : take c.gather-v.result c.gather-v.new.s ≡ words
+  gathered = c.gather-v.ensures.1 ∙ named
 
 -- after the choice of the votes that decide
-module _ (m : tie.After-main-votes) where
-  abbrev g : tie.After-gather
+module _ (m : tie.After-main_votes-m) where
+  abbrev g : tie.After-gather-v
   g = m.before.before.before.before.before
 
   abbrev mains : List ℤ
   mains = main_in (s g).args.q (words g)
 
-  chosen : take m.main-votes.result m.main-votes.last.0 ≡ mains
-  chosen = m.main-votes.ensures.0 ∙ ap (main_in (s g).args.q) (gathered g)
+  chosen : take m.main_votes-m.result m.main_votes-m.new.s ≡ mains
+  chosen = m.main_votes-m.ensures.0 ∙ ap (main_in (s g).args.q) (gathered g)
 
-  room : 6 * m.main-votes.result ≤ length m.main-votes.last.0
-  room = omega (arith, m.main-votes.ensures.1, m.main-votes.kept.0, many g, g.gather.kept.0, (s g).pre.4)
+  room : 6 * m.main_votes-m.result ≤ length m.main_votes-m.new.s
+  room = omega (arith, m.main_votes-m.ensures.1, m.main_votes-m.auto.s, many g, g.gather-v.auto.s, (s g).requires.4)
 
-  most : m.main-votes.result ≡ length mains
-  most = sym (length-take-le m.main-votes.result m.main-votes.last.0 (omega (arith, room))) ∙ ap length chosen
+  most : m.main_votes-m.result ≡ length mains
+  most = sym (length-take-le m.main_votes-m.result m.main_votes-m.new.s (omega (arith, room))) ∙ ap length chosen
 
-  few : m.main-votes.result ≤ 1000000
-  few = omega (arith, m.main-votes.ensures.1, many g, (s g).pre.3)
+  few : m.main_votes-m.result ≤ 1000000
+  few = omega (arith, m.main_votes-m.ensures.1, many g, (s g).requires.3)
 
   known : All (Known (s g).args.refs.now) mains
   known =
       let a = (s g).args in
-      let third = g.before.before.before.before.before.before in
+      let third = g in
       main-all lowest 52 a.q.cfg.min_votes (words g) (Known a.refs.now)
-      (all_known a.voters a.refs.now a.posts.now a.hashes.now a.q (s g).pre.0 (λ i. omega (arith, third.before.shared-slice-known2.given i)) (λ i. omega (arith, third.shared-slice-known3.given i)))
+      (all_known a.voters a.refs.now a.posts.now a.hashes.now a.q (s g).requires.0 (λ i. omega (arith, third.shared_slice_known-2-1.given i)) (λ i. omega (arith, third.shared_slice_known-3-1.given i)))
 
 -- after the look for few bins: the votes are as they were
-module _ (f : tie.After-few-bins) where
-  abbrev m : tie.After-main-votes
+module _ (f : tie.After-few_bins-n) where
+  abbrev m : tie.After-main_votes-m
   m = f.before.before.before
 
-  kept : take m.main-votes.result f.few-bins.last.0 ≡ mains m
-  kept = f.few-bins.ensures.1.0 ∙ chosen m
+  kept : take m.main_votes-m.result f.few_bins-n.new.s ≡ mains m
+  kept = f.few_bins-n.ensures.1.0 ∙ chosen m
 
-main-votes-requires : tie.Need-main-votes-requires
+main-votes-requires : tie.Need-main_votes-m-requires
 main-votes-requires c κs =
     let k = c.before.before.before.before in
-    omega (arith, many k, k.gather.auto.0, (s k).requires.4)
+    omega (arith, many k, k.gather-v.auto.s, (s k).requires.4)
 
-few-bins-requires : tie.Need-few-bins-requires
+few-bins-requires : tie.Need-few_bins-n-requires
 few-bins-requires c κs = let k = c.before.before in (room k, few k)
 
-best-of-few-requires : tie.Need-best-of-few-requires
+best-of-few-requires : tie.Need-best_of_few-requires
 best-of-few-requires c κs =
-    let t = c.before in
-    let f = t.before.before in
+    let t = c in
+    let f = t.before.before.before in
     let k = m f in
     let o = s (g k) in
-    let a = f.few-bins.ensures.0 (omega (arith, t.if1.true)) in (
-      o.pre.0.limits,
+    let a = f.few_bins-n.ensures.0 (omega (arith, t.if-n-gt0.true)) in (
+      o.requires.0.limits,
       a,
-      first-known o.args.refs.now o.args.q (mains k) (known k) f.few-bins.new.0 k.main-votes.result (most k) (kept f) a.votes.some,
+      first-known o.args.refs.now o.args.q (mains k) (known k) f.few_bins-n.new.s k.main_votes-m.result (most k) (kept f) a.votes.some,
       few k,
     )
 
-same_length : tie.Need-same-length
+same_length : tie.Need-shape_of-s-then-n-gt0
 same_length c = search rules
 
-same-length-2 : tie.Need-same-length-2
+same-length-2 : tie.Need-shape_of-which-then-n-gt0
 same-length-2 c = search rules
 
-returns : tie.Need-returns
+returns : tie.Need-returns-then-n-gt0
 returns c =
-    let b = c.before in
-    let f = b.before.before.before.before in
+    let b = c in
+    let f = b.before.before.before.before.before in
     let k = g (m f) in
     let a = (s k).args in
-    b.best-of-few.ensures ∙ ap (best_in a.q a.refs.now) (kept f) ∙ main-best a.q a.refs.now (words k)
+    b.best_of_few.ensures ∙ ap (best_in a.q a.refs.now) (kept f) ∙ main-best a.q a.refs.now (words k)
 
-sort-words-requires : tie.Need-sort-words-requires
+sort-words-requires : tie.Need-sort_words-requires
 sort-words-requires c κs =
     let f = c.before.before.before in
-    omega (arith, room (m f), f.few-bins.auto.0)
+    omega (arith, room (m f), f.few_bins-n.auto.s)
 
-best-of-requires : tie.Need-best-of-requires
+best-of-requires : tie.Need-best_of-requires
 best-of-requires c κs =
-    let sorted = c.before.before.sort-words in
+    let sorted = c.sort_words in
     let f = c.before.before.before.before.before.before in
     let k = m f in
     let o = s (g k) in
-    sorted-votes o.args.refs.now o.args.q (mains k) (known k) sorted.new.0 k.main-votes.result (most k)
-    o.pre.0.limits (sorted.ensures.0 ∙ ap sort_z (kept f)) (few k) (omega (arith, sorted.auto.0, f.few-bins.auto.0, room k))
+    sorted-votes o.args.refs.now o.args.q (mains k) (known k) sorted.new.w k.main_votes-m.result (most k)
+    o.requires.0.limits (sorted.ensures.0 ∙ ap sort_z (kept f)) (few k) (omega (arith, sorted.auto.w, f.few_bins-n.auto.s, room k))
 
-same-length-3 : tie.Need-same-length-3
+same-length-3 : tie.Need-shape_of-s
 same-length-3 c = search rules
 
-same-length-4 : tie.Need-same-length-4
+same-length-4 : tie.Need-shape_of-which
 same-length-4 c = search rules
 
-returns-2 : tie.Need-returns-2
+returns-2 : tie.Need-returns
 returns-2 c =
-    let sorted = c.before.before.before.before.sort-words in
+    let sorted = c.sort_words in
     let f = c.before.before.before.before.before.before.before.before in
     let k = m f in
     let a = (s (g k)).args in
-    c.before.best_of.ensures
-    ∙ sorted-best (mains k) sorted.new.0 k.main-votes.result (most k) (sorted.ensures.0 ∙ ap sort_z (kept f)) (reading a.q) (fair a.q) a.refs.now
+    c.best_of.ensures
+    ∙ sorted-best (mains k) sorted.new.w k.main_votes-m.result (most k) (sorted.ensures.0 ∙ ap sort_z (kept f)) (reading a.q) (fair a.q) a.refs.now
     ∙ main-best a.q a.refs.now (words (g k))
 
-pub best-candidate-spec : {M : Type 1} → statement M
-best-candidate-spec =
+pub best_candidate_spec : {M : Type 1} → statement M
+best_candidate_spec =
     tie.close
     (tie.spec
     gather-requires

@@ -3,7 +3,7 @@ use Rattle.sheet_card.proofs.Reading.{Whole, whole_is, is_whole, record-good, re
 use Rattle.sheet_card.proofs.Turns.{nothing_is, turn_last, turn-record}
 use Rattle.sheet_card.specs.Turns.{Outcome, advanced}
 use Rattle.sheet_text.proofs.Puts.{as-text}
-use Rattle.soundness.specs.Scan.{lent}
+use Rattle.soundness.specs.Scan.{words}
 use Rattle.model.specs.Words.{Words}
 use Rattle.sheet_records.specs.Step.{step_of}
 use Rattle.sheet_records.proofs.Steps.{stepped-as}
@@ -28,7 +28,7 @@ abbrev bytes : tie.Else1 → List ℕ
 bytes c = (start c).args.bytes.now
 
 abbrev store : tie.Else1 → Words
-store c = lent (start c).args.refs (start c).args.postings (start c).args.stopped
+store c = words (start c).args.refs.now (start c).args.postings.now (start c).args.stopped.now
 
 is-whole-here : (c : tie.Else1) → Whole (bytes c)
 is-whole-here c = whole_is (bytes c) (sym c.before.is_whole.ensures ∙ not-false c.before.is_whole.result c.if1.false)
@@ -59,7 +59,7 @@ returns c =
     let w = c.before.before.before.before.before.before.is_whole in
     let e =
     sym
-    (turn_last (lent s.args.refs s.args.postings s.args.stopped) s.args.p s.args.bytes.now
+    (turn_last (words s.args.refs.now s.args.postings.now s.args.stopped.now) s.args.p s.args.bytes.now
     (eqb (length s.args.bytes.now) 0) (nothing_is s.args.bytes.now) (sym w.ensures ∙ not-true w.result c.before.before.before.before.before.if1.true)) in
     let p = c.before.before.before.put_last.ensures in
     (as-text p.0 (ap (λ (o : Outcome). o.line) e), (p.1, (ap (λ (o : Outcome). o.store) e, (c.stop.ensures ∙ ap (λ (o : Outcome). o.next) e, s.requires.1))))

@@ -5,33 +5,33 @@ use borrow.Author.Rules.{rules}
 use Rattle.sheet_records.proofs.remove_record.Statement.{statement}
 use Rattle.sheet_records.proofs.remove_record.Tie as tie
 
-shared-slice-read-id : tie.Need-shared-slice-read-id
+shared-slice-read-id : tie.Need-bounds-fields-0
 shared-slice-read-id c = search rules
 
-remove-requires : tie.Need-remove-requires
+remove-requires : tie.Need-remove-answer-requires
 remove-requires c κs = search rules
 
-put-removal-requires : tie.Need-put-removal-requires
+put-removal-requires : tie.Need-put_removal-requires
 put-removal-requires c κs = search rules
 
-same_length : tie.Need-same-length
+same_length : tie.Need-shape_of-refs
 same_length c = search rules
 
-same-length-2 : tie.Need-same-length-2
+same-length-2 : tie.Need-shape_of-postings
 same-length-2 c = search rules
 
-same-length-3 : tie.Need-same-length-3
+same-length-3 : tie.Need-shape_of-line
 same-length-3 c = search rules
 
 returns : tie.Need-returns
 returns c =
-    let f = c.before.before.before.before.before.before.before.before.before.before.before.before.before.before.before.before.before.args.fields.now in
-    let k = c.before.before.before.before.before.before.before.before.remove in
-    let p = c.before.before.put-removal.ensures in
+    let f = c.args.fields.now in
+    let k = c.remove-answer in
+    let p = c.put_removal.ensures in
     stepped_by f (removal_answer k.result) p.0 p.1 k.ensures
 
-pub remove-record-spec : {M : Type 1} → statement M
-remove-record-spec =
+pub remove_record_spec : {M : Type 1} → statement M
+remove_record_spec =
     tie.close
     (tie.spec
     shared-slice-read-id

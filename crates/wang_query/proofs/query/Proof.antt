@@ -16,7 +16,7 @@ use Rattle.wang_query.proofs.query.Statement.{statement}
 use Rattle.wang_query.proofs.query.Tie as tie
 
 -- once the refusals before 8 are looked at
-module _ (d : tie.After-of-query) where
+module _ (d : tie.After-of_query-r) where
   abbrev s : tie.Start
   s = d.before.before.before.before.before.before
 
@@ -24,48 +24,48 @@ module _ (d : tie.After-of-query) where
   m = lent s.args.refs s.args.posts s.args.stops
 
   abbrev ask : Ask
-  ask = record { cfg = s.args.cfg; rate = s.args.frames-per-sec }
+  ask = record { cfg = s.args.cfg; rate = s.args.frames_per_sec }
 
-  early : d.of-query.result ≡ early_refusal 3 6 m (length s.args.s.now) s.args.hashes.now (beyond s.args.cfg) s.args.set
+  early : d.of_query-r.result ≡ early_refusal 3 6 m (length s.args.s.now) s.args.hashes.now (beyond s.args.cfg) s.args.set
   unfolding beyond
-  early = d.of-query.ensures
+  early = d.of_query-r.ensures
 
   bits : (i : ℕ) → get_or s.args.hashes.now i 0 < 2 ^ 32
-  bits i = omega (arith, d.before.before.shared-slice-known4.given i)
+  bits i = omega (arith, d.shared_slice_known-4-1.given i)
 
-of-query-requires : tie.Need-of-query-requires
+of-query-requires : tie.Need-of_query-r-requires
 of-query-requires c κs = search rules
 
-returns : tie.Need-returns
+returns : tie.Need-returns-then-r-ne0
 returns c =
     let d = c.before in
-    (refused-is wang (omega arith) (m d) (ask d) (s d).args.set (s d).args.hashes.now (s d).args.s.now d.of-query.result (early d) c.if1.true, refl)
+    (refused-is wang (omega arith) (m d) (ask d) (s d).args.set (s d).args.hashes.now (s d).args.s.now d.of_query-r.result (early d) c.if-r-ne0.true, refl)
 
-query-of-requires : tie.Need-query-of-requires
+query-of-requires : tie.Need-query_of-requires
 query-of-requires c κs = search rules
 
 search-requires : tie.Need-search-requires
 search-requires c κs =
     let d = c.before.before.before in
-    let z = c.before.before.if1.false in
-    rw c.query-of.ensures (
-      searchable (m d) (ask d) (s d).args.set (s d).args.hashes.now (s d).args.s.now d.of-query.result (early d) z (bits d),
-      few-votes (m d) (ask d) (s d).args.set (s d).args.hashes.now (s d).args.s.now d.of-query.result (early d) z (bits d),
+    let z = c.if-r-ne0.false in
+    rw c.query_of.ensures (
+      searchable (m d) (ask d) (s d).args.set (s d).args.hashes.now (s d).args.s.now d.of_query-r.result (early d) z (bits d),
+      few-votes (m d) (ask d) (s d).args.set (s d).args.hashes.now (s d).args.s.now d.of_query-r.result (early d) z (bits d),
     )
 
-same_length : tie.Need-same-length
+same_length : tie.Need-shape_of-s
 same_length c = search rules
 
-returns-2 : tie.Need-returns-2
+returns-2 : tie.Need-returns
 returns-2 c =
     let d = c.before.before.before.before.before in
-    let k = c.before.search.ensures in (
-      found-is (m d) (ask d) (s d).args.set (s d).args.hashes.now (s d).args.s.now d.of-query.result (early d) c.before.before.before.before.if1.false (bits d)
-          (λ i. omega (arith, d.before.before.before.before.shared-slice-known2.given i)) (finding_answer c.before.search.result) (rw c.before.before.query-of.ensures at k.0),
+    let k = c.search.ensures in (
+      found-is (m d) (ask d) (s d).args.set (s d).args.hashes.now (s d).args.s.now d.of_query-r.result (early d) c.if-r-ne0.false (bits d)
+          (λ i. omega (arith, d.shared_slice_known-2-1.given i)) (finding_answer c.search.result) (rw c.query_of.ensures at k.0),
       k.1 ∙ ap (λ (x : Answer). scratch_after x (s d).args.s.now) (sym k.0),
     )
 
-pub query-spec : {M : Type 1} → statement M
-query-spec =
+pub query_spec : {M : Type 1} → statement M
+query_spec =
     tie.close
     (tie.spec of-query-requires returns query-of-requires search-requires same_length returns-2)

@@ -4,11 +4,11 @@ use borrow.Author.Rules.{rules}
 use Rattle.wang_query.proofs.query_of.Statement.{statement}
 use Rattle.wang_query.proofs.query_of.Tie as tie
 
-row-max-requires : tie.Need-row-max-requires
+row-max-requires : tie.Need-row_max-requires
 row-max-requires c κs = search rules
 
 returns : tie.Need-returns
-returns c = let a = c.before.before.args in query-parts (record { cfg = a.cfg; rate = a.frames-per-sec }) a.hashes.now c.row-max.result c.row-max.ensures
+returns c = let a = c.args in query-parts (record { cfg = a.cfg; rate = a.frames_per_sec }) a.hashes.now c.row_max.result c.row_max.ensures
 
-pub query-of-spec : {M : Type 1} → statement M
-query-of-spec = tie.close (tie.spec row-max-requires returns)
+pub query_of_spec : {M : Type 1} → statement M
+query_of_spec = tie.close (tie.spec row-max-requires returns)
