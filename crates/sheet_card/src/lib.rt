@@ -2,6 +2,7 @@
 // the same. Here is all that the program decides: how much is read, the line of each turn, and whether the card goes on; and the whole sheet of a card
 // that is held in memory.
 #![tactic(auto)]
+
 ghost use Rattle.std.specs.Prelude.{◌≡◌, false, ◌+◌, ◌*◌, ◌≤◌, ◌<◌, length};
 ghost use Rattle.soundness.specs.Scan.{lent, words};
 ghost use Rattle.sheet_text.specs.Put.{line_most, Put};

@@ -4,11 +4,11 @@ use borrow.Author.Rules.{rules}
 use Rattle.sheet_card.proofs.has_room.Statement.{statement}
 use Rattle.sheet_card.proofs.has_room.Tie as tie
 
-add-result : tie.Need-overflow-add-result
+add-result : tie.Need-overflow_add-result
 add-result c = search rules
 
 returns : tie.Need-returns
 returns c = room-is _ _
 
-pub has-room-spec : {M : Type 1} → statement M
-has-room-spec = tie.close (tie.spec add-result returns)
+pub has_room_spec : {M : Type 1} → statement M
+has_room_spec = tie.close (tie.spec add-result returns)

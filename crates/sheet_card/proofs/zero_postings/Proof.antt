@@ -8,5 +8,5 @@ returns : tie.Need-returns
 unfolding zeroed empty_store
 returns c = refl
 
-pub zero-postings-spec : {M : Type 1} → statement M
-zero-postings-spec = tie.close (tie.spec returns)
+pub zero_postings_spec : {M : Type 1} → statement M
+zero_postings_spec = tie.close (tie.spec returns)

@@ -8,5 +8,5 @@ returns : tie.Need-returns
 unfolding zeroed empty_store
 returns c = refl
 
-pub zero-references-spec : {M : Type 1} → statement M
-zero-references-spec = tie.close (tie.spec returns)
+pub zero_references_spec : {M : Type 1} → statement M
+zero_references_spec = tie.close (tie.spec returns)

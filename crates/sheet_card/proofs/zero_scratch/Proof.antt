@@ -8,5 +8,5 @@ returns : tie.Need-returns
 unfolding zero_scratch
 returns c = refl
 
-pub zero-scratch-spec : {M : Type 1} → statement M
-zero-scratch-spec = tie.close (tie.spec returns)
+pub zero_scratch_spec : {M : Type 1} → statement M
+zero_scratch_spec = tie.close (tie.spec returns)

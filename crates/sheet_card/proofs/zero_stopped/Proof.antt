@@ -8,5 +8,5 @@ returns : tie.Need-returns
 unfolding zeroed empty_store
 returns c = refl
 
-pub zero-stopped-spec : {M : Type 1} → statement M
-zero-stopped-spec = tie.close (tie.spec returns)
+pub zero_stopped_spec : {M : Type 1} → statement M
+zero_stopped_spec = tie.close (tie.spec returns)
