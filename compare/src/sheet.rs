@@ -189,7 +189,7 @@ pub fn program(name: &str) -> PathBuf {
     let program = at_root("target/bin").join(name);
     assert!(
         program.exists(),
-        "target/bin/{name} is not there: run `rt check {name}` first"
+        "target/bin/{name} is not there: run `./test` first"
     );
     program
 }
