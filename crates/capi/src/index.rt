@@ -3,7 +3,7 @@
 ghost use Rattle.std.specs.Prelude.{◌≡◌, length};
 ghost use Rattle.model.specs.Calls.{build, insert, remove, replace, live_count, query};
 ghost use Rattle.model.specs.Run.{run};
-ghost use Rattle.soundness.specs.Scan.{lent};
+ghost use Rattle.soundness.specs.Scan.{lent, words};
 ghost use Rattle.build.specs.Answers.{building_answer};
 ghost use Rattle.insert.specs.Insert.{insertion_answer};
 ghost use Rattle.remove.specs.Answers.{count_answer, removal_answer};
@@ -127,8 +127,8 @@ pub fn wang_index_build(
     sets: &[u32],
     answer: &mut [u64; 8],
 )
-    ensures { (answer.new, lent refs.exit postings.exit stopped.exit)
-        ≡ in_words (run wang (lent refs.entry postings.entry stopped.entry)
+    ensures { (answer.new, words refs.new postings.new stopped.new)
+        ≡ in_words (run wang (words refs.old postings.old stopped.old)
         (build limit hashes.now lengths.now rates.now sets.now)) }
 {
     put_building(
@@ -147,8 +147,8 @@ pub fn wang_index_insert(
     set: u32,
     answer: &mut [u64; 8],
 )
-    ensures { (answer.new, lent refs.exit postings.exit stopped.exit)
-        ≡ in_words (run wang (lent refs.entry postings.entry stopped.entry) (insert limit rate set hashes.now)) }
+    ensures { (answer.new, words refs.new postings.new stopped.new)
+        ≡ in_words (run wang (words refs.old postings.old stopped.old) (insert limit rate set hashes.now)) }
 {
     put_insertion(
         answer,
@@ -163,8 +163,8 @@ pub fn wang_index_remove(
     id: u32,
     answer: &mut [u64; 8],
 )
-    ensures { (answer.new, lent refs.exit postings.exit stopped.exit)
-        ≡ in_words (run wang (lent refs.entry postings.entry stopped.entry) (remove id)) }
+    ensures { (answer.new, words refs.new postings.new stopped.new)
+        ≡ in_words (run wang (words refs.old postings.old stopped.old) (remove id)) }
 {
     put_removal(answer, WangIndex::remove(refs, postings, stopped, id));
 }
@@ -179,8 +179,8 @@ pub fn wang_index_replace(
     limit: u32,
     answer: &mut [u64; 8],
 )
-    ensures { (answer.new, lent refs.exit postings.exit stopped.exit)
-        ≡ in_words (run wang (lent refs.entry postings.entry stopped.entry) (replace id limit rate hashes.now)) }
+    ensures { (answer.new, words refs.new postings.new stopped.new)
+        ≡ in_words (run wang (words refs.old postings.old stopped.old) (replace id limit rate hashes.now)) }
 {
     put_insertion(
         answer,
@@ -232,8 +232,8 @@ pub fn panako_index_build(
     sets: &[u32],
     answer: &mut [u64; 8],
 )
-    ensures { (answer.new, lent refs.exit postings.exit stopped.exit)
-        ≡ in_words (run panako (lent refs.entry postings.entry stopped.entry)
+    ensures { (answer.new, words refs.new postings.new stopped.new)
+        ≡ in_words (run panako (words refs.old postings.old stopped.old)
         (build limit hashes.now lengths.now rates.now sets.now)) }
 {
     put_building(
@@ -252,8 +252,8 @@ pub fn panako_index_insert(
     set: u32,
     answer: &mut [u64; 8],
 )
-    ensures { (answer.new, lent refs.exit postings.exit stopped.exit)
-        ≡ in_words (run panako (lent refs.entry postings.entry stopped.entry) (insert limit rate set hashes.now)) }
+    ensures { (answer.new, words refs.new postings.new stopped.new)
+        ≡ in_words (run panako (words refs.old postings.old stopped.old) (insert limit rate set hashes.now)) }
 {
     put_insertion(
         answer,
@@ -268,8 +268,8 @@ pub fn panako_index_remove(
     id: u32,
     answer: &mut [u64; 8],
 )
-    ensures { (answer.new, lent refs.exit postings.exit stopped.exit)
-        ≡ in_words (run panako (lent refs.entry postings.entry stopped.entry) (remove id)) }
+    ensures { (answer.new, words refs.new postings.new stopped.new)
+        ≡ in_words (run panako (words refs.old postings.old stopped.old) (remove id)) }
 {
     put_removal(answer, PanakoIndex::remove(refs, postings, stopped, id));
 }
@@ -284,8 +284,8 @@ pub fn panako_index_replace(
     limit: u32,
     answer: &mut [u64; 8],
 )
-    ensures { (answer.new, lent refs.exit postings.exit stopped.exit)
-        ≡ in_words (run panako (lent refs.entry postings.entry stopped.entry) (replace id limit rate hashes.now)) }
+    ensures { (answer.new, words refs.new postings.new stopped.new)
+        ≡ in_words (run panako (words refs.old postings.old stopped.old) (replace id limit rate hashes.now)) }
 {
     put_insertion(
         answer,

@@ -3,7 +3,7 @@
 ghost use Rattle.std.specs.Prelude.{◌≡◌, length};
 ghost use Rattle.model.specs.Calls.{build, insert, remove, replace, live_count, query};
 ghost use Rattle.model.specs.Run.{run};
-ghost use Rattle.soundness.specs.Scan.{lent};
+ghost use Rattle.soundness.specs.Scan.{lent, words};
 ghost use Rattle.wang_judge.specs.Scheme.{wang};
 ghost use Rattle.panako_judge.specs.Scheme.{panako};
 ghost use Rattle.capi.specs.Answers.{in_words, in_words_with, wang_asked, panako_asked};
@@ -20,8 +20,8 @@ pub extern "C" fn wang_index_build(
     sets: &[u32],
     answer: &mut [u64; 8],
 )
-    ensures { (answer.new, lent refs.exit postings.exit stopped.exit)
-        ≡ in_words (run wang (lent refs.entry postings.entry stopped.entry)
+    ensures { (answer.new, words refs.new postings.new stopped.new)
+        ≡ in_words (run wang (words refs.old postings.old stopped.old)
         (build limit hashes.now lengths.now rates.now sets.now)) }
 {
     capi::index::wang_index_build(
@@ -40,8 +40,8 @@ pub extern "C" fn wang_index_insert(
     set: u32,
     answer: &mut [u64; 8],
 )
-    ensures { (answer.new, lent refs.exit postings.exit stopped.exit)
-        ≡ in_words (run wang (lent refs.entry postings.entry stopped.entry) (insert limit rate set hashes.now)) }
+    ensures { (answer.new, words refs.new postings.new stopped.new)
+        ≡ in_words (run wang (words refs.old postings.old stopped.old) (insert limit rate set hashes.now)) }
 {
     capi::index::wang_index_insert(refs, postings, stopped, hashes, rate, limit, set, answer);
 }
@@ -54,8 +54,8 @@ pub extern "C" fn wang_index_remove(
     id: u32,
     answer: &mut [u64; 8],
 )
-    ensures { (answer.new, lent refs.exit postings.exit stopped.exit)
-        ≡ in_words (run wang (lent refs.entry postings.entry stopped.entry) (remove id)) }
+    ensures { (answer.new, words refs.new postings.new stopped.new)
+        ≡ in_words (run wang (words refs.old postings.old stopped.old) (remove id)) }
 {
     capi::index::wang_index_remove(refs, postings, stopped, id, answer);
 }
@@ -71,8 +71,8 @@ pub extern "C" fn wang_index_replace(
     limit: u32,
     answer: &mut [u64; 8],
 )
-    ensures { (answer.new, lent refs.exit postings.exit stopped.exit)
-        ≡ in_words (run wang (lent refs.entry postings.entry stopped.entry) (replace id limit rate hashes.now)) }
+    ensures { (answer.new, words refs.new postings.new stopped.new)
+        ≡ in_words (run wang (words refs.old postings.old stopped.old) (replace id limit rate hashes.now)) }
 {
     capi::index::wang_index_replace(refs, postings, stopped, id, hashes, rate, limit, answer);
 }
@@ -137,8 +137,8 @@ pub extern "C" fn panako_index_build(
     sets: &[u32],
     answer: &mut [u64; 8],
 )
-    ensures { (answer.new, lent refs.exit postings.exit stopped.exit)
-        ≡ in_words (run panako (lent refs.entry postings.entry stopped.entry)
+    ensures { (answer.new, words refs.new postings.new stopped.new)
+        ≡ in_words (run panako (words refs.old postings.old stopped.old)
         (build limit hashes.now lengths.now rates.now sets.now)) }
 {
     capi::index::panako_index_build(
@@ -157,8 +157,8 @@ pub extern "C" fn panako_index_insert(
     set: u32,
     answer: &mut [u64; 8],
 )
-    ensures { (answer.new, lent refs.exit postings.exit stopped.exit)
-        ≡ in_words (run panako (lent refs.entry postings.entry stopped.entry) (insert limit rate set hashes.now)) }
+    ensures { (answer.new, words refs.new postings.new stopped.new)
+        ≡ in_words (run panako (words refs.old postings.old stopped.old) (insert limit rate set hashes.now)) }
 {
     capi::index::panako_index_insert(refs, postings, stopped, hashes, rate, limit, set, answer);
 }
@@ -171,8 +171,8 @@ pub extern "C" fn panako_index_remove(
     id: u32,
     answer: &mut [u64; 8],
 )
-    ensures { (answer.new, lent refs.exit postings.exit stopped.exit)
-        ≡ in_words (run panako (lent refs.entry postings.entry stopped.entry) (remove id)) }
+    ensures { (answer.new, words refs.new postings.new stopped.new)
+        ≡ in_words (run panako (words refs.old postings.old stopped.old) (remove id)) }
 {
     capi::index::panako_index_remove(refs, postings, stopped, id, answer);
 }
@@ -188,8 +188,8 @@ pub extern "C" fn panako_index_replace(
     limit: u32,
     answer: &mut [u64; 8],
 )
-    ensures { (answer.new, lent refs.exit postings.exit stopped.exit)
-        ≡ in_words (run panako (lent refs.entry postings.entry stopped.entry) (replace id limit rate hashes.now)) }
+    ensures { (answer.new, words refs.new postings.new stopped.new)
+        ≡ in_words (run panako (words refs.old postings.old stopped.old) (replace id limit rate hashes.now)) }
 {
     capi::index::panako_index_replace(refs, postings, stopped, id, hashes, rate, limit, answer);
 }

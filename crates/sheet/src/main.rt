@@ -4,7 +4,7 @@
 #![tactic(auto)]
 
 ghost use Rattle.std.specs.Prelude.{◌≡◌, false, ◌+◌, ◌≤◌, ◌<◌, length, take};
-ghost use Rattle.soundness.specs.Scan.{lent};
+ghost use Rattle.soundness.specs.Scan.{words};
 ghost use Rattle.sheet_text.specs.Put.{line_most};
 ghost use Rattle.sheet_kinds.specs.Kinds.{zero_scratch};
 ghost use Rattle.sheet_card.specs.Sheet.{empty_store};
@@ -32,7 +32,7 @@ const EIO: i32 = 5;
 // The system's words for an error, without its number.
 fn reason(text: &str) -> &str {
     match text.split_once(" (os error ") {
-        Some((words, _)) => words,
+        Some((why, _)) => why,
         None => text,
     }
 }
@@ -41,8 +41,8 @@ fn reason(text: &str) -> &str {
 fn fail(rt: HostRuntime, stream: &str, error: io::Error) {
     let _ = match format!(in rt.alloc(); "{error}") {
         Ok(text) => {
-            let words = reason(text.as_str());
-            eprintln!(rt; "sheet: {stream}: {words}")
+            let why = reason(text.as_str());
+            eprintln!(rt; "sheet: {stream}: {why}")
         }
         Err(_) => eprintln!(rt; "sheet: {stream}: {error}"),
     };
@@ -207,7 +207,7 @@ fn take_turn(
     p: Progress,
 ) -> Progress
     requires { (scratch.old ≡ zero_scratch) × (8196 ≤ length bytes.old) × (line_most ≤ length line.old) × (p.records ≤ p.offset) × (p.offset < limit) }
-    ensures turn_taken { TurnTaken (lent refs.entry postings.entry stopped.entry) (lent refs.exit postings.exit stopped.exit) p result
+    ensures turn_taken { TurnTaken (words refs.old postings.old stopped.old) (words refs.new postings.new stopped.new) p result
         bytes.new line.old line.new }
     ensures scratch_after { scratch.new ≡ zero_scratch }
 {
