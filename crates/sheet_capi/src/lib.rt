@@ -1,4 +1,4 @@
-// The sheet of a card that is held in memory, for C. A library of its own: with it in `capi`, a query would have two callers and no longer be laid down
+// The sheet of a card that is held in memory, for C. A library of its own: with it in `capi_c`, a query would have two callers and no longer be laid down
 // inside the one.
 #![tactic(auto)]
 
