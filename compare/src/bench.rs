@@ -34,9 +34,19 @@ pub fn run(only: Option<&str>) {
     });
     sort(&table, "10,000 votes as gathered", &mut rng, 10_000);
     sort(&table, "1,000,000 votes as gathered", &mut rng, 1_000_000);
-    sweep(&table, "10 bins", &mut rng, 10);
-    sweep(&table, "1,000 bins", &mut rng, 1000);
-    sweep(&table, "100,000 bins", &mut rng, 100_000);
+    // Bins, their gaps at most, the tolerance, and how far the span's ends lie off the bins.
+    for (what, bins, gap, tol, off) in [
+        ("3 bins side by side", 3, 1, 1, 1000),
+        ("10 bins", 10, 39, 1, 1000),
+        ("10 bins, tolerance 30", 10, 39, 30, 1000),
+        ("10 bins, ends 1,000,000 off", 10, 39, 1, 1_000_000),
+        ("1,000 bins", 1000, 39, 1, 1000),
+        ("1,000 bins, tolerance 30", 1000, 39, 30, 1000),
+        ("100,000 bins", 100_000, 39, 1, 1000),
+    ] {
+        let inputs = enough(bins, || Bins::apart(&mut rng, bins, gap));
+        sweep(&table, what, &inputs, tol, off);
+    }
     hough(&table, "10 bins", &mut rng, 10, 1);
     hough(&table, "24 bins", &mut rng, 24, 1);
     hough(&table, "24 bins, tolerance 4", &mut rng, 24, 4);
@@ -207,42 +217,41 @@ fn enough<K, W>(bins: usize, input: impl FnMut() -> Bins<K, W>) -> Vec<Bins<K, W
 }
 
 impl Bins<i64> {
-    /// It ends 1,000 off the bins.
-    fn span(&self) -> (i64, i64) {
-        (
-            self.rust[0].0 - 1000,
-            self.rust[self.rust.len() - 1].0 + 1000,
-        )
-    }
-}
-
-fn sweep(table: &Table<'_>, what: &str, rng: &mut Rng, bins: usize) {
-    type Input = Bins<i64>;
-    // Gaps of 20 on average.
-    let inputs = enough(bins, || {
+    /// Bins at random gaps of at most `gap`.
+    fn apart(rng: &mut Rng, bins: usize, gap: u64) -> Self {
         let mut offset = -10 * bins as i64;
         let rust: Vec<(i64, u32)> = (0..bins)
             .map(|_| {
-                offset += 1 + rng.below(39) as i64;
+                offset += 1 + rng.below(gap) as i64;
                 (offset, 1 + rng.below(3) as u32)
             })
             .collect();
         let ours = rust.iter().flat_map(|&(d, n)| [d, n.into()]).collect();
-        Bins { ours, rust }
-    });
-    let ours = |input: &Input| {
-        let (low, high) = input.span();
-        capi::consolidate_sparse_wang_box_peak(&input.ours, 1, low, high)
+        Self { ours, rust }
+    }
+
+    /// The span that ends `off` the bins.
+    fn span(&self, off: i64) -> (i64, i64) {
+        (self.rust[0].0 - off, self.rust[self.rust.len() - 1].0 + off)
+    }
+}
+
+fn sweep(table: &Table<'_>, what: &str, inputs: &[Bins<i64>], tol: u64, off: i64) {
+    type Input = Bins<i64>;
+    let ours = |input: &Input, tol, off| {
+        let (low, high) = input.span(off);
+        capi::consolidate_sparse_wang_box_peak(&input.ours, tol, low, high)
     };
-    let rust = |input: &Input| {
-        let (low, high) = input.span();
-        let (peak, centre, mode, total) = Reach::sparse_wang_box_peak(&input.rust, 1, low, high);
+    let rust = |input: &Input, tol: u64, off| {
+        let (low, high) = input.span(off);
+        let (peak, centre, mode, total) =
+            Reach::sparse_wang_box_peak(&input.rust, tol as i64, low, high);
         [1, peak.into(), centre as u64, mode as u64, total, 0, 0, 0]
     };
-    let sides: [fn(&Input) -> Answer; 2] = [ours, rust];
+    let sides: [fn(&Input, u64, i64) -> Answer; 2] = [ours, rust];
     let inputs: Vec<&Input> = inputs.iter().collect();
     table.row("sparse_wang_box_peak", what, &inputs, sides, |side, i| {
-        side(i)[4]
+        side(i, tol, off)[4]
     });
 }
 
