@@ -7,19 +7,8 @@ use Rattle.matching.specs.Offsets.{from_frames}
 use Rattle.matching.specs.Rates.{rates_agree}
 use Rattle.matching.specs.Scores.{below_threshold}
 use Rattle.matching.specs.declared.MatchResult.{MatchResult}
-
--- what a query asks of every candidate: its own rate and its thresholds
-pub record Thresholds : Type 0 where
-  pub rate : Float
-  pub min_votes : ℕ
-  pub min_score : Float
-  pub min_prominence : Float
-
--- what gates 3 and 4 look at
-pub record AtPeak : Type 0 where
-  pub votes : ℕ
-  pub prominence : Float
-  pub score : Float
+use Rattle.gates.specs.declared.Thresholds.{Thresholds}
+use Rattle.gates.specs.declared.AtPeak.{AtPeak}
 
 -- gates 3 and 4: whether a peak passes each
 unfoldable pub peak_gates : Thresholds → AtPeak → List Bool

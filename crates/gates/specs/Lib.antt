@@ -1,2 +1,3 @@
 -- The gates of a candidate.
 pub mod Gates
+pub mod Weighing
