@@ -1,6 +1,6 @@
 -- The bounds of a vote on a limited grid: its scale bin is the last one at most, and its offset lies in -2^39 .. 2^32, so that 2^39 more fits 40 bits.
 -- A scale with a vote is 2^7 at most, and anchors lie below 2^32. Assumes nothing.
-use Rattle.std.proofs.Common.{◌≡◌, ℕ, zero, suc, ◌+◌, ◌-◌, ◌*◌, ◌/◌, ◌^◌, ◌<◌, ◌≤◌, min, Bool, true, false, cond, ◌||◌, T, eqb, ℤ, pos, negsuc, ◌+ℤ◌, neg_ℤ, sym, refl, subst, true≢false, zero-le, le_trans, le_of_eq, lt_of_lt_of_le, lt_of_le_of_lt, le_of_lt, pos_of_ne-zero, mul-one, sub-le, arith, lit<, lit≤, lt→ltb, ltb-false, le-ltb}
+use Rattle.std.proofs.Common.{Option, Some, ◌≡◌, ℕ, zero, suc, ◌+◌, ◌-◌, ◌*◌, ◌^◌, ◌<◌, ◌≤◌, min, Bool, true, false, cond, ◌||◌, T, eqb, ℤ, pos, negsuc, ◌+ℤ◌, neg_ℤ, sym, refl, subst, true≢false, zero-le, le_trans, le_of_eq, lt_of_lt_of_le, lt_of_le_of_lt, le_of_lt, pos_of_ne-zero, mul-one, sub-le, arith, lit<, lit≤, lt→ltb, ltb-false, le-ltb}
 use native.Mathlib.Nat.{min-le_left}
 use borrow.Author.Tests.{eqb-false}
 use lib.Ieee.{Float, nan, inf, fin, binary64, up, down, lt, le, sub, mul, div}
@@ -15,7 +15,6 @@ use Rattle.panako_vote.specs.Votes.{offset_at, none_if, is_vote, vote_at_scale, 
 use Rattle.panako_vote.specs.declared.PanakoMatchConfig.{PanakoMatchConfig}
 use Rattle.panako_vote.specs.declared.ScaleGrid.{ScaleGrid}
 use Rattle.panako_vote.specs.declared.Vote.{Vote}
-use Rattle.panako_vote.specs.declared.Vote.TheVariants.{At}
 use Rattle.panako_vote.proofs.Sizes.{Sized, sized-of-value, sized-sub, sized-mul, sized-div}
 use Rattle.panako_vote.proofs.Bins.{whole_is, bin-le}
 use Rattle.panako_vote.proofs.Limits.{at_most, limited}
@@ -130,12 +129,12 @@ module _ (g : ScaleGrid) (L : Limited g) (qa qc ra rc : ℕ) (QA : qa < 2 ^ 32) 
   pub offset-inside : (x : Float) → x ≡ span_ratio (span ra rc) (span qa qc) → is_vote (vote_on g qa qc ra rc) ≡ true → Inside (offset x qa ra)
   unfolding vote_on vote_at_scale
   offset-inside x e v =
-      let t = tests (At (scale_bin g (span_ratio (span ra rc) (span qa qc))) (offset_at (span_ratio (span ra rc) (span qa qc)) qa ra)) (eqb (span qa qc) 0) (eqb (span ra rc) 0) (outside g (span_ratio (span ra rc) (span qa qc))) v in
+      let t = tests (record { bin = scale_bin g (span_ratio (span ra rc) (span qa qc)); offset = offset_at (span_ratio (span ra rc) (span qa qc)) qa ra }) (eqb (span qa qc) 0) (eqb (span ra rc) 0) (outside g (span_ratio (span ra rc) (span qa qc))) v in
       subst (λ (z : Float). Inside (offset z qa ra)) (sym e)
       (inside (offset (span_ratio (span ra rc) (span qa qc)) qa ra)
       (offset-sized (span_ratio (span ra rc) (span qa qc)) qa ra (voting g L (span_ratio (span ra rc) (span qa qc)) (some-span t.0) t.1) QA Ra))
     where
-      tests : (v : Vote) (a b o : Bool) → is_vote (none_if (a || b) (none_if o v)) ≡ true → (a ≡ false) × (o ≡ false)
+      tests : (v : Vote) (a b o : Bool) → is_vote (none_if (a || b) (none_if o (Some v))) ≡ true → (a ≡ false) × (o ≡ false)
       tests v true b o h = absurd (true≢false (sym h))
       tests v false true o h = absurd (true≢false (sym h))
       tests v false false true h = absurd (true≢false (sym h))
@@ -146,7 +145,7 @@ unfolding grid_of
 pair-bounded cfg A = vote-bounded (grid_of cfg) (limited cfg A)
 
 -- what `pair_vote` promises of its result
-pub with-bounds : (g : ScaleGrid) → Limited g → (v : Vote) (qa qc ra rc : ℕ) → qa < 2 ^ 32 → qc < 2 ^ 32 → ra < 2 ^ 32 → rc < 2 ^ 32
+pub with-bounds : (g : ScaleGrid) → Limited g → (v : Option Vote) (qa qc ra rc : ℕ) → qa < 2 ^ 32 → qc < 2 ^ 32 → ra < 2 ^ 32 → rc < 2 ^ 32
     → v ≡ vote_on g qa qc ra rc → (v ≡ vote_on g qa qc ra rc) × Bounded g.last_bin v
 with-bounds g L v qa qc ra rc QA QC Ra RC e = (e, subst (Bounded g.last_bin) (sym e) (vote-bounded g L qa qc ra rc QA QC Ra RC))
 

@@ -1,5 +1,5 @@
 -- The vote of a pair of equal spans: its scale is 1, and its offset the difference of the anchors. No operation rounds. Assumes nothing.
-use Rattle.std.proofs.Common.{◌≡◌, ℕ, zero, suc, ◌+◌, ◌-◌, ◌*◌, ◌/◌, ◌^◌, ◌<◌, min, Bool, true, false, cond, not, ◌&&◌, T, eqb, ltb, pos, ◌-ℤ◌, neg_ℤ, sym, refl, ap, ◌∙◌, subst, ap₂, true≢false, zero-le, lt_of_lt_of_le, lt_of_le_of_lt, zero-lt-suc, mul_comm, mul-pos, one-mul, mul-one, sub-le, arith, lit≤, ltb→lt, w64, SFits, to_z, of_z, ltb-true, le-ltb, ne_eqb, eqb-true}
+use Rattle.std.proofs.Common.{Some, ◌≡◌, ℕ, zero, suc, ◌+◌, ◌-◌, ◌*◌, ◌/◌, ◌^◌, ◌<◌, min, Bool, true, false, cond, not, ◌&&◌, T, eqb, ltb, pos, ◌-ℤ◌, neg_ℤ, sym, refl, ap, ◌∙◌, subst, ap₂, true≢false, zero-le, lt_of_lt_of_le, lt_of_le_of_lt, zero-lt-suc, mul_comm, mul-pos, one-mul, mul-one, sub-le, arith, lit≤, ltb→lt, w64, SFits, to_z, of_z, ltb-true, le-ltb, ne_eqb, eqb-true}
 use mir.ValLaws.{to_z_pos, to_z-of_z}
 use lib.Ieee.{Float, fin, binary64, up, down, round, sub, mul, div, of_int}
 use lib.Ieee.Fits.{up_pos, down_pos}
@@ -15,7 +15,6 @@ use Rattle.lists.proofs.Tests.{test, and_left, and_right}
 use Rattle.panako_vote.specs.Grids.{whole, outside, scale_bin, Limited}
 use Rattle.panako_vote.specs.Votes.{offset_at, none_if, vote_at_scale, span, span_ratio, vote_on}
 use Rattle.panako_vote.specs.declared.ScaleGrid.{ScaleGrid}
-use Rattle.panako_vote.specs.declared.Vote.TheVariants.{At}
 use Rattle.panako_vote.proofs.Sizes.{not-zero}
 use Rattle.panako_vote.proofs.Bins.{in-format, whole_is}
 
@@ -129,15 +128,15 @@ module _ (r q : ℕ) (R : r < 2 ^ 32) (Q : q < 2 ^ 32) where
 -- ---- the vote
 
 module _ (g : ScaleGrid) (L : Limited g) (qa qc ra rc : ℕ) (QA : qa < 2 ^ 32) (QC : qc < 2 ^ 32) (Ra : ra < 2 ^ 32) where
-  by-scale : span ra rc ≡ span qa qc → 0 < span qa qc → none_if (outside g one) (At (scale_bin g one) (pos ra -ℤ pos qa)) ≡ vote_on g qa qc ra rc
+  by-scale : span ra rc ≡ span qa qc → 0 < span qa qc → none_if (outside g one) (Some (record { bin = scale_bin g one; offset = pos ra -ℤ pos qa })) ≡ vote_on g qa qc ra rc
   unfolding vote_on vote_at_scale
   by-scale e p =
       rw (e, ne_eqb (span qa qc) 0 (not-zero (span qa qc) p), scale-is (span qa qc) p (lt_of_le_of_lt (sub-le qc qa) QC), offset-is ra qa Ra QA)
 
   -- what `is_unit` tests, and what `unit_vote` then gives
-  pub unit-is : (eqb (span ra rc) (span qa qc) && ltb 0 (span qa qc)) ≡ true → none_if (not g.unit_votes) (At g.unit_bin (pos ra -ℤ pos qa)) ≡ vote_on g qa qc ra rc
+  pub unit-is : (eqb (span ra rc) (span qa qc) && ltb 0 (span qa qc)) ≡ true → none_if (not g.unit_votes) (Some (record { bin = g.unit_bin; offset = pos ra -ℤ pos qa })) ≡ vote_on g qa qc ra rc
   unit-is t =
-      ap₂ (λ (b : Bool) (n : ℕ). none_if b (At n (pos ra -ℤ pos qa))) (ap not L.unit_votes ∙ not-not (outside g one)) L.unit_bin
+      ap₂ (λ (b : Bool) (n : ℕ). none_if b (Some (record { bin = n; offset = pos ra -ℤ pos qa }))) (ap not L.unit_votes ∙ not-not (outside g one)) L.unit_bin
       ∙ by-scale (eqb-true (span ra rc) (span qa qc) (and_left (eqb (span ra rc) (span qa qc)) (ltb 0 (span qa qc)) t)) (ltb-true 0 (span qa qc) (and_right (eqb (span ra rc) (span qa qc)) (ltb 0 (span qa qc)) t))
     where
       not-not : (b : Bool) → not (not b) ≡ b

@@ -1,17 +1,12 @@
 -- A vote as one word. Definitions only. Assumes nothing.
-use Rattle.std.specs.Prelude.{ℕ, ◌+◌, ◌*◌, ◌/◌, ◌%◌, ◌^◌, List, [], ◌∷◌, ℤ, pos, ◌+ℤ◌, ◌-ℤ◌, neg_ℤ, unsigned_abs}
-use Rattle.panako_vote.specs.declared.Vote as of_pair
-use Rattle.panako_vote.specs.declared.Vote.TheVariants.{Nothing, At}
-
+use Rattle.std.specs.Prelude.{Option, Some, None, ℕ, ◌+◌, ◌*◌, ◌/◌, ◌%◌, ◌^◌, List, [], ◌∷◌, ℤ, pos, ◌+ℤ◌, ◌-ℤ◌, neg_ℤ, unsigned_abs}
 -- "Panako vote": its scale bin and its offset in frames. The id is the candidate's.
-pub record Vote : Type 0 where
-  pub bin : ℕ
-  pub offset : ℤ
+pub use Rattle.panako_vote.specs.declared.Vote.{Vote}
 
 -- what a pair gives: none or one
-abbrev pub as_list : of_pair.Vote → List Vote
-as_list Nothing = []
-as_list (At bin offset) = record { bin = bin; offset = offset } ∷ []
+abbrev pub as_list : Option Vote → List Vote
+as_list None = []
+as_list (Some v) = v ∷ []
 
 -- scale bin and offset as one number, which ascends in "(scale, offset) order": an offset lies in −2^39 .. 2^32 (proofs/Bounds.antt), so 2^39
 -- more is a number of 40 bits

@@ -3,15 +3,15 @@
 // `PanakoIndex::query`; and a vote as one word.
 #![tactic(auto)]
 
-ghost use Rattle.std.specs.Prelude.{◌≡◌, ◌+◌, ◌-◌, ◌*◌, ◌^◌, ◌<◌, not, ◌&&◌, length, set, pos, ◌+ℤ◌, ◌-ℤ◌, if◌then◌else◌, ◌==◌, nat_lt, unsigned_abs};
+ghost use Rattle.std.specs.Prelude.{Some, ◌≡◌, ◌+◌, ◌-◌, ◌*◌, ◌^◌, ◌<◌, not, ◌&&◌, length, set, pos, ◌+ℤ◌, ◌-ℤ◌, if◌then◌else◌, ◌==◌, nat_lt, unsigned_abs};
 ghost use Rattle.std.specs.Float.Ieee.{lt};
-ghost use Rattle.std.specs.Float.Ieee.Scale.{finite};
 ghost use Rattle.floats.specs.Selection.{zero};
 ghost use Rattle.panako_vote.specs.Settings.{ascending, scale_bins, normalised, within_limits, Accepted};
 ghost use Rattle.panako_vote.specs.Grids.{bin_at, grid_of, Limited};
 ghost use Rattle.panako_vote.specs.Votes.{span, span_ratio, none_if, vote_on, is_vote, InRange, Bounded, checked_vote};
 ghost use Rattle.panako_vote.specs.Words.{middle, lowest, word_of};
-ghost use Rattle.panako_vote.specs.declared.Vote.TheVariants.{At};
+
+use refusals::Refusal;
 
 // The settings that the index uses.
 #[derive(Clone, Copy)]
@@ -25,18 +25,11 @@ pub struct PanakoMatchConfig {
     pub min_prominence: f32,
 }
 
-// Rust's `x.is_finite()`.
-fn is_finite(x: f32) -> bool
-    ensures { result ≡ finite x }
-{
-    floats::abs_f32(x) < 1.0 / 0.0
-}
-
 // Scale ends that are finite and ascending.
 fn is_ascending(min: f32, max: f32) -> bool
     ensures { result ≡ ascending min max }
 {
-    is_finite(min) & is_finite(max) & (max > min)
+    min.is_finite() & max.is_finite() & (max > min)
 }
 
 // The number of scale bins, 24 where none is given.
@@ -63,34 +56,27 @@ pub fn normalize_config(mut cfg: PanakoMatchConfig) -> PanakoMatchConfig
 pub fn within_limits(cfg: PanakoMatchConfig) -> bool
     ensures { result ≡ within_limits cfg }
 {
-    (floats::abs_f32(cfg.scale_min) <= 64.0)
-        & (floats::abs_f32(cfg.scale_max) <= 64.0)
+    (cfg.scale_min.abs() <= 64.0)
+        & (cfg.scale_max.abs() <= 64.0)
         & (cfg.scale_bins <= 4096)
         & (cfg.offset_tolerance_frames <= 65535)
 }
 
-// Rust's `a.saturating_sub(b)`.
-fn saturating_sub(a: u32, b: u32) -> u32
-    ensures { result ≡ a - b }
-{
-    if b <= a { a - b } else { 0 }
-}
-
-// x, and y where x lies above y.
+// x, and y where x lies above y: one instruction, where `f64::min` also looks for a NaN.
 fn at_most(x: f64, y: f64) -> f64
     ensures { result ≡ (if lt y x then y else x) }
 {
     if x > y { y } else { x }
 }
 
-// x where it lies above 0, and else 0.
+// x where it lies above 0, and else 0: one instruction too.
 fn at_least_zero(x: f64) -> f64
     ensures { result ≡ (if lt zero x then x else zero) }
 {
     if x > 0.0 { x } else { 0.0 }
 }
 
-// Rust's `x.clamp(0.0, last as f64) as u32`, with no branch.
+// Rust's `x.clamp(0.0, last as f64) as u32`. `f64::clamp` and the library's truncation branch, and every pair of unequal spans comes here.
 pub fn scale_bin(x: f64, last: u32) -> u32
     ensures { result ≡ bin_at x last }
 {
@@ -121,7 +107,7 @@ pub fn scale_grid(cfg: PanakoMatchConfig) -> ScaleGrid
     let slack: f64 = scale_per_bin * 0.5;
     let low: f64 = scale_min - slack;
     let high: f64 = scale_max + slack;
-    let last_bin = saturating_sub(cfg.scale_bins, 1);
+    let last_bin = cfg.scale_bins.saturating_sub(1);
     let unit_bin = scale_bin((1.0 - scale_min) / scale_per_bin, last_bin);
     let unit_votes = !((1.0 < low) | (1.0 > high));
     ScaleGrid {
@@ -135,97 +121,95 @@ pub fn scale_grid(cfg: PanakoMatchConfig) -> ScaleGrid
     }
 }
 
-// The vote of a query hash and a posting under its key: the scale bin, and the offset in frames.
+// The frames of a query hash or of a posting: its t_anchor and its t_c.
 #[derive(Clone, Copy)]
-pub enum Vote {
-    Nothing,
-    At { bin: u32, offset: i64 },
+pub struct Span {
+    pub anchor: u32,
+    pub end: u32,
 }
 
-// The scale of a pair at q_anchor .. q_end and r_anchor .. r_end: the reference's span over the
-// query's, and a NaN or an infinity where the query has none.
-fn pair_scale(q_anchor: u32, q_end: u32, r_anchor: u32, r_end: u32) -> f64
-    ensures { result ≡ span_ratio (span r_anchor r_end) (span q_anchor q_end) }
+impl Span {
+    // How many frames, held at 0 from below.
+    fn length(self) -> u32
+        ensures { result ≡ span self.anchor self.end }
+    {
+        self.end.saturating_sub(self.anchor)
+    }
+}
+
+// The vote of a query hash and a posting under its key: the scale bin, and the offset in frames.
+#[derive(Clone, Copy)]
+pub struct Vote {
+    pub bin: u32,
+    pub offset: i64,
+}
+
+// The scale of a pair: the reference's span over the query's, and a NaN or an infinity where the query has none.
+fn pair_scale(q: Span, r: Span) -> f64
+    ensures { result ≡ span_ratio (span r.anchor r.end) (span q.anchor q.end) }
 {
-    let r_span = saturating_sub(r_end, r_anchor);
-    let q_span = saturating_sub(q_end, q_anchor);
-    (r_span as f64) / (q_span as f64)
+    (r.length() as f64) / (q.length() as f64)
 }
 
 // Whether the pair votes: all that counting the votes needs.
-pub fn has_vote(g: ScaleGrid, q_anchor: u32, q_end: u32, r_anchor: u32, r_end: u32) -> bool
-    ensures { result ≡ is_vote (vote_on g q_anchor q_end r_anchor r_end) }
+pub fn has_vote(g: ScaleGrid, q: Span, r: Span) -> bool
+    ensures { result ≡ is_vote (vote_on g q.anchor q.end r.anchor r.end) }
 {
-    let s = pair_scale(q_anchor, q_end, r_anchor, r_end);
+    let s = pair_scale(q, r);
     let outside = (s < g.low) | (s > g.high);
-    (q_anchor < q_end) & (r_anchor < r_end) & !outside
+    (q.anchor < q.end) & (r.anchor < r.end) & !outside
 }
 
 // Whether the spans are equal and not empty: then the scale is 1.
-fn is_unit(q_anchor: u32, q_end: u32, r_anchor: u32, r_end: u32) -> bool
-    ensures { result ≡ (span r_anchor r_end == span q_anchor q_end && nat_lt 0 (span q_anchor q_end)) }
+fn is_unit(q: Span, r: Span) -> bool
+    ensures { result ≡ (span r.anchor r.end == span q.anchor q.end && nat_lt 0 (span q.anchor q.end)) }
 {
-    let span = saturating_sub(q_end, q_anchor);
-    (saturating_sub(r_end, r_anchor) == span) & (0 < span)
+    let span = q.length();
+    (r.length() == span) & (0 < span)
 }
 
 // The vote of a pair of scale 1.
-fn unit_vote(g: ScaleGrid, q_anchor: u32, r_anchor: u32) -> Vote
-    ensures { result ≡ none_if (not g.unit_votes) (At g.unit_bin (pos r_anchor -ℤ pos q_anchor)) }
+fn unit_vote(g: ScaleGrid, q_anchor: u32, r_anchor: u32) -> Option<Vote>
+    ensures { result ≡ none_if (not g.unit_votes) (Some (record { bin = g.unit_bin; offset = pos r_anchor -ℤ pos q_anchor })) }
 {
     if g.unit_votes {
-        let bin = g.unit_bin;
-        let offset = (r_anchor as i64) - (q_anchor as i64);
-        return Vote::At { bin, offset };
+        let offset = i64::from(r_anchor) - i64::from(q_anchor);
+        return Some(Vote {
+            bin: g.unit_bin,
+            offset,
+        });
     }
-    Vote::Nothing
+    None
 }
 
 // The vote of the pair. Most pairs have equal spans, and need no float.
-pub fn pair_vote(g: ScaleGrid, q_anchor: u32, q_end: u32, r_anchor: u32, r_end: u32) -> Vote
+pub fn pair_vote(g: ScaleGrid, q: Span, r: Span) -> Option<Vote>
     requires { Limited g }
-    ensures value { result ≡ vote_on g q_anchor q_end r_anchor r_end }
+    ensures value { result ≡ vote_on g q.anchor q.end r.anchor r.end }
     ensures bounded { Bounded g.last_bin result }
 {
-    if is_unit(q_anchor, q_end, r_anchor, r_end) {
-        return unit_vote(g, q_anchor, r_anchor);
+    if is_unit(q, r) {
+        return unit_vote(g, q.anchor, r.anchor);
     }
-    if has_vote(g, q_anchor, q_end, r_anchor, r_end) {
-        let s = pair_scale(q_anchor, q_end, r_anchor, r_end);
-        let b = (r_anchor as f64) - s * (q_anchor as f64);
+    if has_vote(g, q, r) {
+        let s = pair_scale(q, r);
+        let b = (r.anchor as f64) - s * (q.anchor as f64);
         let bin = scale_bin((s - g.scale_min) / g.scale_per_bin, g.last_bin);
         let offset = floats::round_small_to_i64(b);
-        return Vote::At { bin, offset };
+        return Some(Vote { bin, offset });
     }
-    Vote::Nothing
-}
-
-// What `checked_vote` answers.
-#[derive(Clone, Copy)]
-pub enum CheckedVote {
-    Refused,
-    Nothing,
-    At { bin: u32, offset: i64 },
+    None
 }
 
 // The vote of a pair under any settings: normalised first, and refused beyond the limits.
-pub fn checked_vote(
-    cfg: PanakoMatchConfig,
-    q_anchor: u32,
-    q_end: u32,
-    r_anchor: u32,
-    r_end: u32,
-) -> CheckedVote
-    ensures { result ≡ checked_vote cfg q_anchor q_end r_anchor r_end }
+pub fn checked_vote(cfg: PanakoMatchConfig, q: Span, r: Span) -> Result<Option<Vote>, Refusal>
+    ensures { result ≡ checked_vote cfg q.anchor q.end r.anchor r.end }
 {
     let c = normalize_config(cfg);
     if within_limits(c) {
-        match pair_vote(scale_grid(c), q_anchor, q_end, r_anchor, r_end) {
-            Vote::Nothing => CheckedVote::Nothing,
-            Vote::At { bin, offset } => CheckedVote::At { bin, offset },
-        }
+        Ok(pair_vote(scale_grid(c), q, r))
     } else {
-        CheckedVote::Refused
+        Err(Refusal::Setting)
     }
 }
 
@@ -257,17 +241,13 @@ fn pack(id: u64, bin: u64, place: u64) -> u64
 fn lowered(x: u64) -> i64
     ensures { result ≡ pos x -ℤ pos lowest }
 {
-    if x < LOWEST {
-        let m = (LOWEST - 1 - x) as i64;
-        return -1 - m;
-    }
-    (x - LOWEST) as i64
+    x.wrapping_sub(LOWEST).cast_signed()
 }
 
 // Stores a vote in word i.
-pub fn put_vote(s: &mut [i64], i: usize, id: u64, bin: u32, offset: i64)
-    requires { (i < length s.old) × (id < 2 ^ 12) × (bin < 2 ^ 12) × InRange offset }
-    ensures { s.new ≡ set s.old i (word_of id (record { bin = bin; offset = offset })) }
+pub fn put_vote(s: &mut [i64], i: usize, id: u64, v: Vote)
+    requires { (i < length s.old) × (id < 2 ^ 12) × (v.bin < 2 ^ 12) × InRange v.offset }
+    ensures { s.new ≡ set s.old i (word_of id v) }
 {
-    s[i] = lowered(pack(id, slices::wide(bin), place_of(offset)));
+    s[i] = lowered(pack(id, u64::from(v.bin), place_of(v.offset)));
 }
