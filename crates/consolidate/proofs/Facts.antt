@@ -5,10 +5,10 @@ use mathlib.Core.Bool.{Bool, true, false, cond, not}
 use native.Mathlib.Omega.{arith}
 use lib.IntN.{ℤ, pos, ◌+ℤ◌}
 use lib.Dec.{eqb}
+use Rattle.std.specs.Prelude.{Option}
 use Rattle.maps.specs.Sums.{sum_to, greatest, first}
 use Rattle.consolidate.specs.Runs.{first_greatest, run_end}
 use Rattle.consolidate.specs.Box.{peak_over}
-use Rattle.consolidate.specs.declared.Mode.{Mode}
 use Rattle.maps.proofs.Sums.{sum-term, greatest-under}
 
 first-le : (p : ℕ → Bool) (c k : ℕ) → first p c k ≤ c + k
@@ -30,7 +30,7 @@ midpoint-le w k =
     let s : ℕ = first (λ x. eqb (w x) (greatest w k)) 0 k in
     omega (arith, first-le (λ x. eqb (w x) (greatest w k)) 0 k, first-le (λ x. not (eqb (w x) (greatest w k))) s (k - s))
 
-module _ (w : ℕ → ℕ) (near : ℤ → ℤ → Mode) (low : ℤ) (k : ℕ) where
+module _ (w : ℕ → ℕ) (near : ℤ → ℤ → Option ℤ) (low : ℤ) (k : ℕ) where
   pub votes-total : (peak_over w near low k).votes ≤ (peak_over w near low k).total
   unfolding peak_over
   votes-total = greatest-under w k (sum_to w k) (λ i h. sum-term w k i h)

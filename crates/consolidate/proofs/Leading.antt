@@ -6,7 +6,7 @@ use native.Mathlib.Omega.{arith}
 use native.Mathlib.Decide.{dec_lt}
 use lib.Dec.{ltb, eqb}
 use borrow.Author.Tests.{ltb-true, ltb-false, eqb-true, eqb-false, eq-eqb, ne_eqb}
-use Rattle.maps.specs.Sums.{greatest, first}
+use Rattle.maps.specs.Sums.{greatest}
 use Rattle.consolidate.specs.Runs.{first_greatest, run_end, Leads}
 use Rattle.consolidate.specs.Sweeping.{Best, better_of}
 use Rattle.consolidate.specs.declared.Run.{Run}

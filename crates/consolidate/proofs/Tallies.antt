@@ -10,7 +10,7 @@ use Rattle.maps.specs.Sums.{sum_to, sum_to_ℤ, greatest, when, when_ℤ}
 use Rattle.consolidate.specs.Modes.{nearest_mean, mode}
 use Rattle.consolidate.specs.Tallies.{tally_of}
 use Rattle.consolidate.specs.declared.Tally.{Tally}
-use Rattle.consolidate.specs.declared.Mode.TheVariants.{Offset, Nothing}
+use Rattle.std.specs.Prelude.{Some, None}
 use Rattle.maps.proofs.Sums.{sum-next, sum-cong, sum_zeros, sum-none, sum-under, keep-le, sum_ℤ-next, sum_ℤ-cong, sum_ℤ-zeros, sum_ℤ-none, sum_ℤ-under, keep_ℤ-abs, greatest-next, greatest-cong, greatest-over, greatest-zeros}
 
 -- offset y has the count best, which is not 0
@@ -118,15 +118,15 @@ module _ (m : ℕ → ℕ) (z : ℕ → ℤ) where
 -- ---- the mode, from the tally
 
 module _ (m : ℕ → ℕ) (z : ℕ → ℤ) (k : ℕ) (t : Tally) (T : Tallied m z k t) where
-  pub mode-none : t.best ≡ 0 → Nothing ≡ mode m z k
+  pub mode-none : t.best ≡ 0 → None ≡ mode m z k
   unfolding mode
   mode-none e = rw (eq-eqb (greatest m k) 0 (sym T.top ∙ e)) refl
 
-  pub mode-some : (t.best ≡ 0 → ⊥) → Offset (nearest_mean t.sum t.count) ≡ mode m z k
+  pub mode-some : (t.best ≡ 0 → ⊥) → Some (nearest_mean t.sum t.count) ≡ mode m z k
   unfolding mode
   mode-some h =
       let e = ties-are m z k t (omega arith) T in
-      rw (ne_eqb (greatest m k) 0 (λ q. h (T.top ∙ q))) (sym (ap Offset (ap₂ nearest_mean e.1 e.0)))
+      rw (ne_eqb (greatest m k) 0 (λ q. h (T.top ∙ q))) (sym (ap Some (ap₂ nearest_mean e.1 e.0)))
 
 -- counts that agree have one mode
 pub mode-cong : (m m' : ℕ → ℕ) (z : ℕ → ℤ) (k : ℕ) → ((x : ℕ) → x < k → m x ≡ m' x) → mode m z k ≡ mode m' z k

@@ -1,11 +1,10 @@
 -- The box sweep. A bin is two words of a slice: its offset, its count. Definitions only. Assumes nothing.
-use Rattle.std.specs.Prelude.{ℕ, ◌+◌, ◌-◌, ◌*◌, ◌/◌, Bool, cond, ◌&&◌, List, ℤ, pos, nat_abs, ◌+ℤ◌, ◌-ℤ◌, leb, ltb, eqb, get_or}
+use Rattle.std.specs.Prelude.{ℕ, ◌+◌, ◌-◌, ◌*◌, ◌/◌, Bool, cond, ◌&&◌, Option, List, ℤ, pos, nat_abs, ◌+ℤ◌, ◌-ℤ◌, leb, ltb, eqb, get_or}
 use Rattle.std.specs.Int.Signed.{le_z}
 use Rattle.maps.specs.Bins.{offset, votes}
 use Rattle.maps.specs.Sums.{sum_to, greatest, when}
 use Rattle.consolidate.specs.Runs.{first_greatest, run_end}
 use Rattle.consolidate.specs.Modes.{mode, mode_or}
-use Rattle.consolidate.specs.declared.Mode.{Mode}
 use Rattle.consolidate.specs.declared.Peak.{Peak}
 
 -- the word that holds the count of bin i
@@ -17,7 +16,7 @@ abbrev pub between : ℕ → ℕ → ℕ → Bool
 between from to i = leb from i && ltb i to
 
 -- the mode of those bins
-abbrev pub mode_between : List ℤ → ℕ → ℕ → ℕ → Mode
+abbrev pub mode_between : List ℤ → ℕ → ℕ → ℕ → Option ℤ
 mode_between l n from to = mode (λ i. when (between from to i) (votes l i)) (offset l) n
 
 -- the offset d is within ± tol of a centre from a to b
@@ -29,12 +28,12 @@ unfoldable pub window : List ℤ → ℕ → ℕ → ℤ → ℕ
 window l n tol c = sum_to (λ i. when (within tol c c (offset l i)) (votes l i)) n
 
 -- the mode "among bins within tolerance of the run" from a to b
-unfoldable pub mode_near : List ℤ → ℕ → ℕ → ℤ → ℤ → Mode
+unfoldable pub mode_near : List ℤ → ℕ → ℕ → ℤ → ℤ → Option ℤ
 mode_near l n tol a b = mode (λ i. when (within tol a b (offset l i)) (votes l i)) (offset l) n
 
 -- "greatest sum, whole-number midpoint (down) of its first run, mode, total over all centres",
 -- the centres being low, low + 1, .., low + k - 1 with the sums w 0, .., w (k - 1), and `near a b` the mode near the run from a to b
-unfoldable pub peak_over : (ℕ → ℕ) → (ℤ → ℤ → Mode) → ℤ → ℕ → Peak
+unfoldable pub peak_over : (ℕ → ℕ) → (ℤ → ℤ → Option ℤ) → ℤ → ℕ → Peak
 peak_over w near low k =
     let a : ℕ = first_greatest w k in
     let b : ℕ = run_end w k in

@@ -1,16 +1,13 @@
 -- What the exported functions ask of their arguments: a record for those who prove it, and the test that the code decides. The two
 -- say the same (proofs/Checks.antt). Definitions only. Assumes nothing.
-use Rattle.std.specs.Prelude.{ℕ, ◌+◌, ◌*◌, ◌^◌, ◌≤◌, ◌<◌, Bool, cond, ◌&&◌, ◌||◌, List, ℤ, nat_abs, T, leb, ltb, length}
+use Rattle.std.specs.Prelude.{ℕ, ◌+◌, ◌*◌, ◌^◌, ◌≤◌, ◌<◌, Bool, cond, ◌&&◌, ◌||◌, Option, Some, None, List, ℤ, nat_abs, T, leb, ltb, length}
 use Rattle.std.specs.Int.Signed.{non_neg, le_z, lt_z}
 use Rattle.maps.specs.Bins.{offset, votes}
 use Rattle.maps.specs.Sums.{sum_to}
 use Rattle.lists.specs.Every.{every}
 use Rattle.consolidate.specs.Modes.{mode}
 use Rattle.consolidate.specs.Box.{count_of, box_peak}
-use Rattle.consolidate.specs.declared.CheckedMode.{CheckedMode}
-use Rattle.consolidate.specs.declared.CheckedMode.TheVariants as checked-mode
-use Rattle.consolidate.specs.declared.CheckedPeak.{CheckedPeak}
-use Rattle.consolidate.specs.declared.CheckedPeak.TheVariants as checked-peak
+use Rattle.consolidate.specs.declared.Peak.{Peak}
 
 -- n bins of l, in any order; a million votes are the most that a scratch holds
 pub record Bins (l : List ℤ) (n : ℕ) : Type 0 where
@@ -48,11 +45,11 @@ ends_ok tol low high = leb tol 65535 && (ltb (nat_abs low) (2 ^ 32) && ltb (nat_
 unfoldable pub span_ok : List ℤ → ℕ → ℕ → ℤ → ℤ → Bool
 span_ok l n tol low high = bins_ok l n && (ends_ok tol low high && (every n (in_span l n low high) && leb (sum_to (votes l) n) 1000000))
 
--- ---- for any arguments
+-- ---- for any arguments: none where the test fails
 
--- the mode of n bins
-unfoldable pub checked_mode : List ℤ → ℕ → CheckedMode
-checked_mode l n = cond (bins_ok l n) (checked-mode.Found (mode (votes l) (offset l) n)) checked-mode.Refused
+-- the mode of n bins, if they have one
+unfoldable pub checked_mode : List ℤ → ℕ → Option (Option ℤ)
+checked_mode l n = cond (bins_ok l n) (Some (mode (votes l) (offset l) n)) None
 
-unfoldable pub checked_peak : List ℤ → ℕ → ℕ → ℤ → ℤ → CheckedPeak
-checked_peak l n tol low high = cond (span_ok l n tol low high) (checked-peak.Found (box_peak l n tol low high)) checked-peak.Refused
+unfoldable pub checked_peak : List ℤ → ℕ → ℕ → ℤ → ℤ → Option Peak
+checked_peak l n tol low high = cond (span_ok l n tol low high) (Some (box_peak l n tol low high)) None

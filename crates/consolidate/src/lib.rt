@@ -7,7 +7,7 @@ ghost use Rattle.std.specs.Int.Signed.{lt_z};
 ghost use Rattle.maps.specs.Bins.{offset, votes, place};
 ghost use Rattle.maps.specs.Sums.{sum_to};
 ghost use Rattle.lists.specs.Every.{every};
-ghost use Rattle.consolidate.specs.Modes.{ceil, nearest_mean, mode_or};
+ghost use Rattle.consolidate.specs.Modes.{ceil, nearest_mean};
 ghost use Rattle.consolidate.specs.Box.{mode_between, mode_near, peak_over, box_peak};
 ghost use Rattle.consolidate.specs.Limits.{Bins, bin_ok, bins_ok, Span, ends_ok, in_span, span_ok, checked_mode, checked_peak};
 ghost use Rattle.consolidate.specs.Windows.{window_sum, Passed, Slides, Covers};
@@ -17,13 +17,6 @@ ghost use Rattle.consolidate.specs.Sweeping.{Placed, Next, better_of, Swept};
 use maps::smaller;
 use signed::{is_at_most, is_less, is_natural, unsigned_abs};
 
-// The offset that is reported for a peak, if there is one.
-#[derive(Clone, Copy)]
-pub enum Mode {
-    Offset(i64),
-    Nothing,
-}
-
 // The greatest sum, the centre of its first run, the mode near that run, and the sum over all centres.
 #[derive(Clone, Copy)]
 pub struct Peak {
@@ -31,18 +24,6 @@ pub struct Peak {
     pub centre: i64,
     pub mode: i64,
     pub total: u64,
-}
-
-#[derive(Clone, Copy)]
-pub enum CheckedMode {
-    Refused,
-    Found(Mode),
-}
-
-#[derive(Clone, Copy)]
-pub enum CheckedPeak {
-    Refused,
-    Found(Peak),
 }
 
 // ---- words
@@ -140,8 +121,8 @@ pub fn nearest_mean(sum: i64, m: u64) -> i64
     ceil_div(num, 2 * m)
 }
 
-// The mode of the bins from `from` to before `to`.
-pub fn mode_offset(s: &[i64], n: usize, from: usize, to: usize) -> Mode
+// The mode of the bins from `from` to before `to`; none where no count is positive.
+pub fn mode_offset(s: &[i64], n: usize, from: usize, to: usize) -> Option<i64>
     requires { Bins s.now n × (from ≤ to) × (to ≤ n) }
     ensures { result ≡ mode_between s.now n from to }
 {
@@ -150,24 +131,13 @@ pub fn mode_offset(s: &[i64], n: usize, from: usize, to: usize) -> Mode
         count: 0,
         sum: 0,
     };
-    let mut i = from;
-    while i < to {
+    for i in from..to {
         t = tallied(t, votes_at(s, n, i), offset_at(s, n, i));
-        i += 1;
     }
     if t.best == 0 {
-        return Mode::Nothing;
+        return None;
     }
-    Mode::Offset(nearest_mean(t.sum, t.count))
-}
-
-fn mode_or(m: Mode, other: i64) -> i64
-    ensures { result ≡ mode_or other m }
-{
-    match m {
-        Mode::Offset(d) => d,
-        Mode::Nothing => other,
-    }
+    Some(nearest_mean(t.sum, t.count))
 }
 
 // ---- the sweep; a place is an offset counted from the low end of the span
@@ -362,7 +332,7 @@ fn peak_over(s: &[i64], n: usize, tol: u64, low: i64, width: u64) -> Peak
     let centre = centre_at(low, start + (end - 1 - start) / 2);
     let from = advance(s, low, n, 0, saturating_sub(start, tol));
     let to = advance(s, low, n, from.at, end + tol);
-    let mode = mode_or(mode_offset(s, n, from.at, to.at), centre);
+    let mode = mode_offset(s, n, from.at, to.at).unwrap_or(centre);
     Peak {
         votes: run.peak,
         centre,
@@ -495,22 +465,22 @@ pub fn span_ok(s: &[i64], n: usize, tol: u64, low: i64, high: i64) -> bool
     sum_ok(s, n, 2, 1)
 }
 
-// `mode_offset` of the first n bins, for any arguments.
-pub fn checked_mode_offset(s: &[i64], n: usize) -> CheckedMode
+// `mode_offset` of the first n bins, for any arguments: none where they are refused.
+pub fn checked_mode_offset(s: &[i64], n: usize) -> Option<Option<i64>>
     ensures { result ≡ checked_mode s.now n }
 {
     if bins_ok(s, n) {
-        return CheckedMode::Found(mode_offset(s, n, 0, n));
+        return Some(mode_offset(s, n, 0, n));
     }
-    CheckedMode::Refused
+    None
 }
 
-// `sparse_wang_box_peak`, for any arguments.
-pub fn checked_box_peak(s: &[i64], n: usize, tol: u64, low: i64, high: i64) -> CheckedPeak
+// `sparse_wang_box_peak`, for any arguments: none where they are refused.
+pub fn checked_box_peak(s: &[i64], n: usize, tol: u64, low: i64, high: i64) -> Option<Peak>
     ensures { result ≡ checked_peak s.now n tol low high }
 {
     if span_ok(s, n, tol, low, high) {
-        return CheckedPeak::Found(sparse_wang_box_peak(s, n, tol, low, high));
+        return Some(sparse_wang_box_peak(s, n, tol, low, high));
     }
-    CheckedPeak::Refused
+    None
 }

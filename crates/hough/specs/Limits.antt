@@ -1,14 +1,12 @@
 -- What the exported functions ask of their bins: a record for those who prove it, and the test that the code decides. The two say the
 -- same (proofs/Checks.antt). Then the sums, which stand behind the bins. Definitions only. Assumes nothing.
-use Rattle.std.specs.Prelude.{ℕ, ◌+◌, ◌*◌, ◌/◌, ◌^◌, ◌≤◌, ◌<◌, ◌≡◌, Bool, cond, ◌&&◌, ◌||◌, List, ℤ, pos, nat_abs, T, leb, ltb, eqb, length, get_or, take, drop}
+use Rattle.std.specs.Prelude.{ℕ, ◌+◌, ◌*◌, ◌/◌, ◌^◌, ◌≤◌, ◌<◌, ◌≡◌, Bool, cond, ◌&&◌, ◌||◌, Option, Some, None, List, ℤ, pos, nat_abs, T, leb, ltb, eqb, length, get_or, take, drop}
 use Rattle.std.specs.Int.Signed.{non_neg, lt_z}
 use Rattle.maps.specs.Sums.{sum_to}
 use Rattle.lists.specs.Every.{every}
 use Rattle.hough.specs.Hough.{scale_word, offset, count_of, scale, votes, hough_sum, hough_peak, peak_offset, prominence}
 use Rattle.hough.specs.declared.Peak.{Peak}
 use Rattle.hough.specs.declared.Answer.{Answer}
-use Rattle.hough.specs.declared.CheckedAnswer.{CheckedAnswer}
-use Rattle.hough.specs.declared.CheckedAnswer.TheVariants.{Refused, Found}
 
 -- "(scale, offset) order"
 abbrev pub before : List ℤ → ℕ → ℕ → Bool
@@ -58,7 +56,7 @@ pub record WithSums (s₀ s : List ℤ) (n tol : ℕ) : Type 0 where
   pub kept : Kept s₀ s n
   pub sums : Summed s n tol
 
--- ---- for any arguments
+-- ---- for any arguments: none where the test fails
 
 -- the peak, its frames and its prominence
 abbrev pub answer_at : List ℤ → ℕ → ℕ → Peak → Answer
@@ -68,10 +66,10 @@ answer_at l n tol p = record { peak = p; offset = peak_offset l n tol p.at; prom
 abbrev pub hough_ok : List ℤ → ℕ → ℕ → Bool
 hough_ok s n tol = leb n (length s / 4) && (ltb 0 n && (leb tol 65535 && bins_ok (take (3 * n) s) n))
 
-unfoldable pub checked_answer : List ℤ → ℕ → ℕ → CheckedAnswer
-checked_answer s n tol = cond (hough_ok s n tol) (let l = take (3 * n) s in Found (answer_at l n tol (hough_peak l n tol))) Refused
+unfoldable pub checked_answer : List ℤ → ℕ → ℕ → Option Answer
+checked_answer s n tol = cond (hough_ok s n tol) (let l = take (3 * n) s in Some (answer_at l n tol (hough_peak l n tol))) None
 
 -- what an answer leaves of the words s₀
-abbrev pub LeftAfter : CheckedAnswer → List ℤ → List ℤ → ℕ → ℕ → Type 0
-LeftAfter Refused s₀ s n tol = s ≡ s₀
-LeftAfter (Found a) s₀ s n tol = WithSums s₀ s n tol
+abbrev pub LeftAfter : Option Answer → List ℤ → List ℤ → ℕ → ℕ → Type 0
+LeftAfter None s₀ s n tol = s ≡ s₀
+LeftAfter (Some a) s₀ s n tol = WithSums s₀ s n tol

@@ -47,12 +47,6 @@ pub struct Answer {
     pub prominence: f32,
 }
 
-#[derive(Clone, Copy)]
-pub enum CheckedAnswer {
-    Refused,
-    Found(Answer),
-}
-
 // ---- bins
 
 // The scale bin of bin i.
@@ -600,13 +594,13 @@ fn hough_ok(s: &[i64], n: usize, tol: u64) -> bool
 }
 
 // The peak, its offset and its prominence, for any arguments: of n bins, whose sums are put behind
-// them. Where it refuses, the words stay as they are.
-pub fn checked_hough(s: &mut [i64], n: usize, tol: u64) -> CheckedAnswer
+// them. None where they are refused, and then the words stay as they are.
+pub fn checked_hough(s: &mut [i64], n: usize, tol: u64) -> Option<Answer>
     ensures value { result ≡ checked_answer s.old n tol }
     ensures left_after { LeftAfter result s.old s.new n tol }
 {
     if hough_ok(s, n, tol) {
-        return CheckedAnswer::Found(answer_of(s, n, tol));
+        return Some(answer_of(s, n, tol));
     }
-    CheckedAnswer::Refused
+    None
 }
