@@ -1,3 +1,4 @@
+pub mod Library
 pub mod Round
 pub mod Cut
 pub mod Assembled

@@ -4,7 +4,7 @@ use lib.Ieee.{Float}
 use lib.Ieee.Positive.{positive}
 use Rattle.floats.specs.Rounding.{round_to_i64}
 use Rattle.matching.specs.declared.TimeOffset.{TimeOffset}
-use Rattle.matching.specs.declared.TriedOffset.TheVariants.{Nothing, Offset}
+use Rattle.std.specs.Prelude.{Some, None}
 use Rattle.matching.specs.Offsets.{unrounded, millis, in_i64, from_frames, try_from_frames}
 
 -- the record with these frames and milliseconds
@@ -24,14 +24,14 @@ module _ (frames : ℤ) (rate : Float) where
   unfolding millis
   at_none p = rw p
 
-  pub tried : (t : TimeOffset) → positive rate ≡ true → in_i64 (unrounded frames rate) ≡ true → t ≡ from_frames frames rate → Offset t ≡ try_from_frames frames rate
+  pub tried : (t : TimeOffset) → positive rate ≡ true → in_i64 (unrounded frames rate) ≡ true → t ≡ from_frames frames rate → Some t ≡ try_from_frames frames rate
   unfolding try_from_frames
-  tried t p q e = rw (p, q) (ap Offset e)
+  tried t p q e = rw (p, q) (ap Some e)
 
-  pub tried-no-rate : positive rate ≡ false → Nothing ≡ try_from_frames frames rate
+  pub tried-no-rate : positive rate ≡ false → None ≡ try_from_frames frames rate
   unfolding try_from_frames
   tried-no-rate p = rw p
 
-  pub tried-beyond : positive rate ≡ true → in_i64 (unrounded frames rate) ≡ false → Nothing ≡ try_from_frames frames rate
+  pub tried-beyond : positive rate ≡ true → in_i64 (unrounded frames rate) ≡ false → None ≡ try_from_frames frames rate
   unfolding try_from_frames
   tried-beyond p q = rw (p, q)

@@ -1,12 +1,14 @@
 -- `better` is a strict weak order on all results, and `match_result_compare_desc` says Less exactly by it. Assumes nothing.
-use Rattle.std.proofs.Common.{◌≡◌, Bool, true, false, not, ◌&&◌, ◌||◌, refl}
-use lib.Ieee.{Float, is_nan}
+use Rattle.std.proofs.Common.{◌≡◌, Bool, true, false, not, ◌&&◌, ◌||◌, refl, unwrap_or}
+use lib.Ieee.{Float, is_nan, lt, eq}
+use Rattle.std.specs.Ordering.{is_lt, ordering_then, float_partial_cmp}
+use Rattle.std.proofs.lemmas.Float.{eq-not_lt, eq_flip}
 use Rattle.lists.proofs.Tests.{test, not-both}
+use Rattle.floats.proofs.Numbers.{yes}
 use Rattle.floats.proofs.Order.{lt-asymmetric, lt-transitive}
 use Rattle.matching.specs.declared.MatchResult.{MatchResult}
-use Rattle.matching.specs.declared.Ordering.{Ordering}
-use Rattle.matching.specs.declared.Ordering.TheVariants.{Less, Equal, Greater}
-use Rattle.matching.specs.Results.{higher, pick, compare_desc, then_by, result_compare, better}
+use Rattle.std.specs.declared.cmp.Ordering.TheVariants.{Less, Equal, Greater}
+use Rattle.matching.specs.Results.{higher, pick, compare_desc, result_compare, better}
 
 -- ---- one float, a NaN last
 
@@ -74,18 +76,28 @@ better-transitive a b c h k = go a.score a.prominence b.score b.prominence c.sco
 
 -- ---- what the comparison says of it
 
-abbrev pub is_less : Ordering → Bool
-is_less Less = true
-is_less Equal = false
-is_less Greater = false
-
-pub less-is-better : (a b : MatchResult) → is_less (result_compare a b) ≡ better a b
+pub less-is-better : (a b : MatchResult) → is_lt (result_compare a b) ≡ better a b
 unfolding result_compare compare_desc better
 less-is-better a b = go (higher a.score b.score) (higher b.score a.score) (higher a.prominence b.prominence) (higher b.prominence a.prominence)
   where
-    go : (x y u v : Bool) → is_less (then_by (pick x Less (pick y Greater Equal)) (pick u Less (pick v Greater Equal))) ≡ (x || (not y && u))
+    go : (x y u v : Bool) → is_lt (ordering_then (pick x Less (pick y Greater Equal)) (pick u Less (pick v Greater Equal))) ≡ (x || (not y && u))
     go true y u v = refl
     go false true u v = refl
     go false false true v = refl
     go false false false true = refl
     go false false false false = refl
+
+-- ---- of two numbers, the answer of `partial_cmp`, the other way round, is the descending order
+
+module _ (x y : Float) (p : is_nan x ≡ false) (q : is_nan y ≡ false) where
+  -- equal numbers are in no order
+  tied-eq : eq y x ≡ true → lt x y ≡ false
+  tied-eq d = test (lt x y) (λ e. absurd (eq-not_lt x y (eq_flip y x (yes d)) (yes e))) (λ e. e)
+
+  pub partial-is : unwrap_or (float_partial_cmp y x) Equal ≡ compare_desc x y
+  unfolding compare_desc
+  partial-is = rw (p, q) (test (lt y x)
+      (λ e. rw e)
+      (λ e. test (eq y x)
+      (λ d. rw (e, d, tied-eq d))
+      (λ d. rw (e, d) (test (lt x y) (λ f. rw f) (λ f. rw f)))))

@@ -1,12 +1,10 @@
 -- `TimeOffset`. Definitions only. Assumes nothing.
-use Rattle.std.specs.Prelude.{Bool, true, false, cond, ◌&&◌, ℤ, pos, Float}
+use Rattle.std.specs.Prelude.{Bool, true, false, cond, ◌&&◌, ℤ, pos, Float, Option, Some, None}
 use Rattle.std.specs.Float.{fin, binary64}
 use Rattle.std.specs.Float.Ieee.{mul, div, of_int, le, lt}
 use Rattle.std.specs.Float.Ieee.Positive.{positive}
 use Rattle.floats.specs.Rounding.{round_to_i64}
 use Rattle.matching.specs.declared.TimeOffset.{TimeOffset}
-use Rattle.matching.specs.declared.TriedOffset.{TriedOffset}
-use Rattle.matching.specs.declared.TriedOffset.TheVariants.{Nothing, Offset}
 
 -- 1000 is 125 * 2 ^ 3
 abbrev pub thousand : Float
@@ -27,10 +25,10 @@ from_frames frames rate = record { frames = frames; ms = millis frames rate }
 unfoldable pub in_i64 : Float → Bool
 in_i64 x = le (fin true 1 (pos 63)) x && lt x (fin false 1 (pos 63))
 
--- The Rust's `try_from_frames`: nothing where the rate isn't finite and above 0, or where the milliseconds don't fit in an i64.
+-- The Rust's `try_from_frames`: none where the rate isn't finite and above 0, or where the milliseconds don't fit in an i64.
 -- From 2^52 on every f64 is whole, so the rounding moves no number over an end.
-unfoldable pub try_from_frames : ℤ → Float → TriedOffset
-try_from_frames frames rate = cond (positive rate && in_i64 (unrounded frames rate)) (Offset (from_frames frames rate)) Nothing
+unfoldable pub try_from_frames : ℤ → Float → Option TimeOffset
+try_from_frames frames rate = cond (positive rate && in_i64 (unrounded frames rate)) (Some (from_frames frames rate)) None
 
 abbrev pub zero_offset : TimeOffset
 zero_offset = record { frames = pos 0; ms = pos 0 }

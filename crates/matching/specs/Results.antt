@@ -1,10 +1,11 @@
 -- Match results and how they rank. Definitions only. Assumes nothing.
 use Rattle.std.specs.Prelude.{Bool, true, false, cond, not, ◌&&◌, ◌||◌, is_nan, Float}
 use Rattle.std.specs.Float.Ieee.{lt}
+use Rattle.std.specs.Ordering.{ordering_then}
 use Rattle.floats.specs.Selection.{zero, one}
 use Rattle.matching.specs.Offsets.{zero_offset}
-use Rattle.matching.specs.declared.Ordering.{Ordering}
-use Rattle.matching.specs.declared.Ordering.TheVariants.{Less, Equal, Greater}
+use Rattle.std.specs.declared.cmp.Ordering.{Ordering}
+use Rattle.std.specs.declared.cmp.Ordering.TheVariants.{Less, Equal, Greater}
 use Rattle.matching.specs.declared.MatchResult.{MatchResult}
 
 -- `MatchResult::NONE`
@@ -25,9 +26,7 @@ compare_desc x y = pick (higher x y) Less (pick (higher y x) Greater Equal)
 
 -- by the first, and where that says nothing by the second
 abbrev pub then_by : Ordering → Ordering → Ordering
-then_by Less o = Less
-then_by Equal o = o
-then_by Greater o = Greater
+then_by = ordering_then
 
 -- `match_result_compare_desc`
 unfoldable pub result_compare : MatchResult → MatchResult → Ordering

@@ -10,11 +10,13 @@ ghost use Rattle.matching.specs.Scores.{clamp_score, below_threshold, wang_promi
 ghost use Rattle.matching.specs.Scales.{per_bin, bin_centre, time_scale};
 ghost use Rattle.matching.specs.Results.{compare_desc, result_compare, better, no_match};
 
+use std::cmp::Ordering;
+
 // A rate that is finite and above zero.
 fn is_rate(x: f32) -> bool
     ensures { result ≡ positive x }
 {
-    x > 0.0 && x < 1.0 / 0.0
+    x > 0.0 && x.is_finite()
 }
 
 // The milliseconds of so many frames, before they are rounded.
@@ -22,7 +24,7 @@ fn milliseconds(frames: i64, frames_per_sec: f32) -> f64
     requires { positive frames_per_sec ≡ true }
     ensures { result ≡ unrounded frames frames_per_sec }
 {
-    std::num::nearest_i64_to_f64(frames) * 1000.0 / (frames_per_sec as f64)
+    std::num::nearest_i64_to_f64(frames) * 1000.0 / f64::from(frames_per_sec)
 }
 
 // Whether the number is among those of an i64. Both ends are floats.
@@ -37,13 +39,6 @@ fn is_i64(x: f64) -> bool
 pub struct TimeOffset {
     pub frames: i64,
     pub ms: i64,
-}
-
-// The `Option` of `try_from_frames`.
-#[derive(Clone, Copy)]
-pub enum TriedOffset {
-    Nothing,
-    Offset(TimeOffset),
 }
 
 impl TimeOffset {
@@ -62,18 +57,18 @@ impl TimeOffset {
         TimeOffset { frames, ms: 0 }
     }
 
-    // Nothing where the rate is none, or the milliseconds don't fit in an i64.
-    pub fn try_from_frames(frames: i64, frames_per_sec: f32) -> TriedOffset
+    // None where the rate is none, or the milliseconds don't fit in an i64.
+    pub fn try_from_frames(frames: i64, frames_per_sec: f32) -> Option<TimeOffset>
         ensures { result ≡ try_from_frames frames frames_per_sec }
     {
         if !is_rate(frames_per_sec) {
-            return TriedOffset::Nothing;
+            return None;
         }
         let ms = milliseconds(frames, frames_per_sec);
         if !is_i64(ms) {
-            return TriedOffset::Nothing;
+            return None;
         }
-        TriedOffset::Offset(TimeOffset {
+        Some(TimeOffset {
             frames,
             ms: floats::round_to_i64(ms),
         })
@@ -102,7 +97,7 @@ impl MatchResult {
     };
 }
 
-// The constant `TimeOffset::ZERO`, by what it holds.
+// The constant `TimeOffset::ZERO`, by what it holds: a constant itself has no contract.
 pub fn zero_offset() -> TimeOffset
     ensures { result ≡ zero_offset }
 {
@@ -120,11 +115,10 @@ pub fn no_match() -> MatchResult
 pub fn frames_per_sec_compatible(a: f32, b: f32) -> bool
     ensures { result ≡ rates_agree a b }
 {
-    if is_rate(a) {
-        if is_rate(b) {
-            let scale = floats::max_f32(floats::abs_f32(a), floats::abs_f32(b));
-            return floats::abs_f32(a - b) <= 0.001 * scale;
-        }
+    if is_rate(a) && is_rate(b) {
+        // `f32::max` doesn't say which of two equal floats it gives.
+        let scale = floats::max_f32(a.abs(), b.abs());
+        return (a - b).abs() <= 0.001 * scale;
     }
     false
 }
@@ -133,10 +127,7 @@ pub fn frames_per_sec_compatible(a: f32, b: f32) -> bool
 pub fn clamp_score(s: f32) -> f32
     ensures { result ≡ clamp_score s }
 {
-    if s != s {
-        return 0.0;
-    }
-    floats::clamp_f32(s, 0.0, 1.0)
+    if s.is_nan() { 0.0 } else { s.clamp(0.0, 1.0) }
 }
 
 // Whether the value is barred: it isn't at least the threshold.
@@ -146,55 +137,31 @@ pub fn below_threshold(value: f32, threshold: f32) -> bool
     !(value >= threshold)
 }
 
-#[derive(Clone, Copy)]
-pub enum Ordering {
-    Less,
-    Equal,
-    Greater,
-}
-
 // Descending, a NaN after every number.
 pub fn score_compare_desc_rank(a: f32, b: f32) -> Ordering
     ensures { result ≡ compare_desc a b }
 {
-    if a != a {
-        if b != b {
-            return Ordering::Equal;
-        }
-        return Ordering::Greater;
+    match (a.is_nan(), b.is_nan()) {
+        (true, true) => Ordering::Equal,
+        (true, false) => Ordering::Greater,
+        (false, true) => Ordering::Less,
+        (false, false) => b.partial_cmp(&a).unwrap_or(Ordering::Equal),
     }
-    if b != b {
-        return Ordering::Less;
-    }
-    if b < a {
-        return Ordering::Less;
-    }
-    if a < b {
-        return Ordering::Greater;
-    }
-    Ordering::Equal
 }
 
 // By score, then by prominence, each descending.
 pub fn match_result_compare_desc(a: MatchResult, b: MatchResult) -> Ordering
     ensures { result ≡ result_compare a b }
 {
-    match score_compare_desc_rank(a.score, b.score) {
-        Ordering::Less => Ordering::Less,
-        Ordering::Greater => Ordering::Greater,
-        Ordering::Equal => score_compare_desc_rank(a.prominence, b.prominence),
-    }
+    let by_prominence = score_compare_desc_rank(a.prominence, b.prominence);
+    score_compare_desc_rank(a.score, b.score).then(by_prominence)
 }
 
 // Whether a ranks before b: the test of `track_best`.
 pub fn is_better(a: MatchResult, b: MatchResult) -> bool
     ensures { result ≡ better a b }
 {
-    match match_result_compare_desc(a, b) {
-        Ordering::Less => true,
-        Ordering::Equal => false,
-        Ordering::Greater => false,
-    }
+    match_result_compare_desc(a, b).is_lt()
 }
 
 // peak / (mean + 1), with the mean of the other centres of the span.
@@ -211,39 +178,30 @@ pub fn wang_prominence(peak: u64, total: u64, width: u64) -> f32
 pub fn score(n: u64, hashes: u64) -> f32
     ensures { result ≡ score_of n hashes }
 {
-    if hashes == 0 {
-        return clamp_score(floats::u64_to_f32(n) / floats::u64_to_f32(1));
-    }
-    clamp_score(floats::u64_to_f32(n) / floats::u64_to_f32(hashes))
+    clamp_score(floats::u64_to_f32(n) / floats::u64_to_f32(hashes.max(1)))
 }
 
 // The width of a Panako scale bin.
 pub fn scale_per_bin(scale_min: f64, scale_max: f64, scale_bins: u32) -> f64
     ensures { result ≡ per_bin scale_min scale_max scale_bins }
 {
-    (scale_max - scale_min) / (scale_bins as f64)
+    (scale_max - scale_min) / f64::from(scale_bins)
 }
 
 // The centre of a Panako scale bin.
 pub fn scale_centre(scale_min: f64, per_bin: f64, bin: u32) -> f64
     ensures { result ≡ bin_centre scale_min per_bin bin }
 {
-    scale_min + ((bin as f64) + 0.5) * per_bin
+    scale_min + (f64::from(bin) + 0.5) * per_bin
 }
 
 // The time scale that is reported for a peak at the scale c.
 pub fn time_scale(c: f64) -> f32
     ensures { result ≡ time_scale c }
 {
-    if floats::abs_f64(c) > 0.000001 {
-        let s: f64 = 1.0 / c;
-        if s < 0.5 {
-            return 0.5;
-        }
-        if s > 2.0 {
-            return 2.0;
-        }
-        return floats::f64_to_f32(s);
+    if c.abs() > 0.000001 {
+        floats::f64_to_f32((1.0 / c).clamp(0.5, 2.0))
+    } else {
+        1.0
     }
-    1.0
 }

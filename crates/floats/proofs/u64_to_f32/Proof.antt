@@ -1,6 +1,6 @@
 -- `floats::u64_to_f32` meets its contract. `proofs/Cut.antt` says what the count of leading zeros tells of n, and `proofs/Assembled.antt` that the exponent's field
 -- and the digits kept are n rounded once. Assumes nothing.
-use Rattle.std.proofs.Common.{ℕ, ◌+◌, ◌-◌, ◌*◌, ◌^◌, ◌<◌, ◌≤◌, not, T, pos, sym, ap, ◌∙◌, subst, zero-lt-suc, one-mul, arith, le→leb, rules}
+use Rattle.std.proofs.Common.{ℕ, ◌-◌, ◌*◌, ◌^◌, ◌<◌, ◌≤◌, not, T, pos, sym, ap, ◌∙◌, subst, zero-lt-suc, one-mul, arith, le→leb, rules}
 use lib.Count.{count_leading_zeros}
 use lib.Ieee.{binary32, in_float, of_bits, nan_bits}
 use Rattle.floats.proofs.Cut.{small-of-zeros, digits-of-zeros}
