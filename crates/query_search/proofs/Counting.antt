@@ -6,12 +6,11 @@ use Rattle.lists.proofs.Entries.{stride-more}
 use Rattle.maps.specs.Sums.{when}
 use Rattle.maps.specs.Entries.{first_at}
 use Rattle.maps.proofs.Sums.{keep-le}
-use Rattle.query_search.specs.declared.Voters.{Voters}
 use Rattle.query_search.specs.Voting.{may_vote, voting}
 use Rattle.query_search.proofs.Meeting.{under-entries}
 use Rattle.query_search.proofs.Voting.{under-voting, many-none, many_more, many-longer}
 
-module _ (vs : Voters) (rs ps : List ℕ) (w p key : ℕ) where
+module _ (vs : ℕ) (rs ps : List ℕ) (w p key : ℕ) where
   -- how many of the first d postings at the key or behind it vote
   unfoldable pub votes_of : ℕ → ℕ
   votes_of d = length (voting vs rs (entries w d (drop (w * first_at ps w p key) ps)))

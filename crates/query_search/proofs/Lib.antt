@@ -4,5 +4,6 @@ pub mod Levels
 pub mod Meeting
 pub mod Voting
 pub mod Counting
+pub mod Turns
 pub mod Walks
 pub mod Eighths

@@ -112,3 +112,11 @@ module _ (ps : List ℕ) (w p : ℕ) (hs : List ℕ) (h m : ℕ) (S : Sought ps 
 
   pub few_words : (n : ℕ) → n ≤ p → w * n < 2 ^ 32
   few_words n l = let k = mul-le-mul_left w l in omega (arith, S.counted)
+
+-- ---- a step of the search, t being the postings from the last one of the larger half on
+module _ (ps : List ℕ) (w p : ℕ) (hs : List ℕ) (h m : ℕ) (S : Sought ps w p hs h m) (key len word : ℕ) (W : Placed ps w p key len word) (t : List ℕ) (e : t ≡ drop (w * (len - len / 2) - w) ps) where
+  pub step-fits : (0 < w * (len - len / 2) → word < length t) × (word + w * (len - len / 2) < 2 ^ 32)
+  step-fits = rw e (half-there ps w p key len word W S.posting S.postings, half-few ps w p key len word W S.counted)
+
+  pub stepped : (r : ℕ) → r ≡ word + when (ltb (get_or t word 0) key) (w * (len - len / 2)) → Placed ps w p key (len / 2) r
+  stepped r er = halved-words ps w p key len word W S.ascend r (rw e at er)

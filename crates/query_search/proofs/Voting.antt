@@ -10,21 +10,20 @@ use Rattle.maps.specs.Sums.{when}
 use Rattle.model.specs.Rows.{in_set}
 use Rattle.model.specs.Words.{at_set}
 use Rattle.model.specs.Soundness.{row_word}
-use Rattle.query_search.specs.declared.Voters.{Voters}
 use Rattle.query_search.specs.Gathered.{words_by}
 use Rattle.query_search.specs.Voting.{may_vote, voting, if_voting, HasRow, Rowed}
 
-module _ (v : Voters) (rs : List ℕ) where
+module _ (v : ℕ) (rs : List ℕ) where
   -- "or 0 for all"
-  pub all-may : v.set ≡ 0 → (id : ℕ) → may_vote v rs id ≡ true
+  pub all-may : v ≡ 0 → (id : ℕ) → may_vote v rs id ≡ true
   unfolding may_vote in_set
   all-may e id = rw e
 
-  pub some-may : (v.set ≡ 0 → ⊥) → (id : ℕ) → may_vote v rs id ≡ eqb (row_word rs id at_set) v.set
+  pub some-may : (v ≡ 0 → ⊥) → (id : ℕ) → may_vote v rs id ≡ eqb (row_word rs id at_set) v
   unfolding may_vote in_set
-  some-may h id = rw (ne_eqb v.set 0 h)
+  some-may h id = rw (ne_eqb v 0 h)
 
-  pub voting-all : v.set ≡ 0 → (es : List (List ℕ)) → voting v rs es ≡ es
+  pub voting-all : v ≡ 0 → (es : List (List ℕ)) → voting v rs es ≡ es
   unfolding voting
   voting-all e es = keep_all (λ x. may_vote v rs (get_or x 1 0)) es (all_of (λ (x : List ℕ). may_vote v rs (get_or x 1 0) ≡ true) (λ x. all-may e (get_or x 1 0)) es)
 

@@ -19,7 +19,7 @@ postings = (7 ∷ 0 ∷ 4 ∷ []) ∷ (7 ∷ 1 ∷ 5 ∷ []) ∷ (9 ∷ 2 ∷ 6 
 
 -- those that vote in a query for a set
 unfoldable voters : ℕ → List (List ℕ)
-voters set = voting (record { set = set }) references postings
+voters set = voting set references postings
 
 of-set-2 : voters 2 ≡ (7 ∷ 1 ∷ 5 ∷ []) ∷ (9 ∷ 2 ∷ 6 ∷ []) ∷ []
 unfolding voters voting may_vote in_set keep flat row_entries

@@ -6,19 +6,18 @@ use Rattle.lists.specs.Entries.{entries}
 use Rattle.model.specs.Rows.{in_set}
 use Rattle.model.specs.Words.{head_width, row_width, row_place, at_set}
 use Rattle.model.specs.Soundness.{row_word}
-use Rattle.query_search.specs.declared.Voters.{Voters}
 
--- may recording id vote?
-unfoldable pub may_vote : Voters → List ℕ → ℕ → Bool
-may_vote v rs id = in_set v.set (row_word rs id at_set)
+-- may recording id vote in a query for this set?
+unfoldable pub may_vote : ℕ → List ℕ → ℕ → Bool
+may_vote set rs id = in_set set (row_word rs id at_set)
 
 -- those of the postings es that vote
-unfoldable pub voting : Voters → List ℕ → List (List ℕ) → List (List ℕ)
-voting v rs es = keep (λ e. may_vote v rs (slice_index e 1)) es
+unfoldable pub voting : ℕ → List ℕ → List (List ℕ) → List (List ℕ)
+voting set rs es = keep (λ e. may_vote set rs (slice_index e 1)) es
 
 -- the words that f gives with posting e, where it votes
-unfoldable pub if_voting : Voters → List ℕ → (List ℕ → List ℤ) → List ℕ → List ℤ
-if_voting v rs f e = cond (may_vote v rs (slice_index e 1)) (f e) []
+unfoldable pub if_voting : ℕ → List ℕ → (List ℕ → List ℤ) → List ℕ → List ℤ
+if_voting set rs f e = cond (may_vote set rs (slice_index e 1)) (f e) []
 
 -- ---- what the code asks
 
