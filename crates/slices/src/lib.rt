@@ -24,14 +24,14 @@ pub fn size(x: u32) -> usize
 pub fn wide(x: u32) -> u64
     ensures { (result ≡ x) × (result < 2 ^ 32) }
 {
-    x as u64
+    u64::from(x)
 }
 
 // A byte as a wider number.
 pub fn wide_byte(b: u8) -> u64
     ensures { (result ≡ b) × (result < 256) }
 {
-    b as u64
+    u64::from(b)
 }
 
 // n words of src, from `from` on, go to dst at `to`.
@@ -39,24 +39,15 @@ pub fn copy_words(dst: &mut [u32], to: usize, src: &[u32], from: usize, n: usize
     requires { (to + n ≤ length dst.old) × (from + n ≤ length src.now) }
     ensures { dst.new ≡ pasted dst.old to src.now from n }
 {
-    let mut j = 0;
-    while j < n {
-        dst[to + j] = at(src, from + j);
-        j += 1;
-    }
+    dst[to..to + n].copy_from_slice(&src[from..from + n]);
 }
 
-// n words from `from` on go to `to`, which is no earlier: the last one first.
+// n words from `from` on go to `to`, which is no earlier.
 pub fn move_up(s: &mut [u32], to: usize, from: usize, n: usize)
     requires { (from ≤ to) × (to + n ≤ length s.old) }
     ensures { s.new ≡ pasted s.old to s.old from n }
 {
-    let mut j = n;
-    while 0 < j {
-        j -= 1;
-        let x = s[from + j];
-        s[to + j] = x;
-    }
+    s.copy_within(from..from + n, to);
 }
 
 // n words from `from` on go to `to`, which is no later.
@@ -64,14 +55,8 @@ pub fn move_down(s: &mut [u32], to: usize, from: usize, n: usize)
     requires { (to ≤ from) × (from + n ≤ length s.old) }
     ensures { s.new ≡ pasted s.old to s.old from n }
 {
-    if to == from {
-        return;
-    }
-    let mut j = 0;
-    while j < n {
-        let x = s[from + j];
-        s[to + j] = x;
-        j += 1;
+    if to != from {
+        s.copy_within(from..from + n, to);
     }
 }
 
@@ -80,11 +65,7 @@ pub fn clear(s: &mut [u32], a: usize, b: usize)
     requires { (a ≤ b) × (b ≤ length s.old) }
     ensures { s.new ≡ cleared s.old a b }
 {
-    let mut i = a;
-    while i < b {
-        s[i] = 0;
-        i += 1;
-    }
+    s[a..b].fill(0);
 }
 
 // Zeros from place a on.
@@ -92,24 +73,17 @@ pub fn clear_from(s: &mut [u32], a: usize)
     requires { a ≤ length s.old }
     ensures { s.new ≡ take a s.old ++ replicate (length s.old - a) 0 }
 {
-    let end = s.len();
-    clear(s, a, end);
+    s[a..].fill(0);
 }
 
-// Whether every word from place a on is zero.
+// Whether every word from place a on is zero. No early exit, so that many words are tested at once.
 pub fn is_zero_from(s: &[u32], a: usize) -> bool
     requires { a ≤ length s.now }
     ensures { result ≡ zero_from s.now a }
 {
     let mut ok = true;
-    let mut i = a;
-    while i < s.len() {
-        if at(s, i) == 0 {
-            i += 1;
-        } else {
-            ok = false;
-            i += 1;
-        }
+    for x in &s[a..] {
+        ok &= *x == 0;
     }
     ok
 }
