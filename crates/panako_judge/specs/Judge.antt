@@ -15,7 +15,9 @@ use Rattle.panako_vote.specs.Words.{Vote}
 use Rattle.panako_vote.specs.declared.PanakoMatchConfig.{PanakoMatchConfig}
 use Rattle.hough.specs.Hough.{scale, gap, hough_peak, peak_offset, prominence}
 use Rattle.hough.specs.declared.Peak.{Peak}
-use Rattle.gates.specs.Gates.{Thresholds, AtPeak, gates, result_at, passing}
+use Rattle.gates.specs.Gates.{gates, result_at, passing}
+use Rattle.gates.specs.declared.Thresholds.{Thresholds}
+use Rattle.gates.specs.declared.AtPeak.{AtPeak}
 use Rattle.panako_judge.specs.declared.PanakoQuery.{PanakoQuery}
 
 -- ── the occupied bins ──

@@ -19,7 +19,8 @@ use Rattle.query_rank.specs.Verdicts.{verdict_of}
 use Rattle.wang_judge.specs.Judge.{Counts, any_vote, seen_of, thresholds_of, at_peak, result_of, judge_by}
 use Rattle.wang_judge.specs.Candidates.{counts_in, seen_in, Counted}
 use Rattle.wang_judge.specs.declared.WangQuery.{WangQuery}
-use Rattle.query_rank.specs.declared.Verdict.{Verdict}
+use Rattle.std.specs.Prelude.{Option}
+use Rattle.matching.specs.declared.MatchResult.{MatchResult}
 use Rattle.gates.proofs.Passing.{Judged}
 use Rattle.wang_judge.proofs.Words.{counts-tell, counts-few}
 use Rattle.wang_judge.proofs.Peaks.{peak-is, span_of, sums, peak-le, peak-under, peak-centre}
@@ -94,7 +95,7 @@ module _ (q : WangQuery) (rate rmax : ℕ) (n : Counts) where
   unfolding seen_of
   seen-votes = refl
 
-  pub judged-by : (fps : Float) → fps ≡ of_bits binary32 rate → (v : Verdict)
+  pub judged-by : (fps : Float) → fps ≡ of_bits binary32 rate → (v : Option MatchResult)
       → Judged (thresholds_of q) fps (seen_of q rmax n).votes (at_peak (seen_of q rmax n)) (result_of fps (seen_of q rmax n)) v
       → v ≡ verdict_of (judge_by q rate rmax n)
   unfolding judge_by

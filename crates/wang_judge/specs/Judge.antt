@@ -12,7 +12,9 @@ use Rattle.consolidate.specs.Modes.{mode}
 use Rattle.consolidate.specs.Box.{within, peak_over}
 use Rattle.consolidate.specs.declared.Mode.{Mode}
 use Rattle.consolidate.specs.declared.Peak.{Peak}
-use Rattle.gates.specs.Gates.{Thresholds, AtPeak, gates, result_at, passing}
+use Rattle.gates.specs.Gates.{gates, result_at, passing}
+use Rattle.gates.specs.declared.Thresholds.{Thresholds}
+use Rattle.gates.specs.declared.AtPeak.{AtPeak}
 use Rattle.wang_judge.specs.declared.WangQuery.{WangQuery}
 
 -- "Wang vote: id, δ = t_anchor of the posting − t_anchor of the query hash, position of the query hash". The id is the candidate's.

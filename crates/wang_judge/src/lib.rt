@@ -16,7 +16,8 @@ ghost use Rattle.wang_judge.specs.Candidates.{counts_in, seen_in, Candidate, Cou
 
 use bins::Form;
 use consolidate::Peak;
-use query_rank::Verdict;
+use gates::Thresholds;
+use matching::MatchResult;
 
 // The settings that the index uses.
 #[derive(Clone, Copy)]
@@ -53,25 +54,42 @@ pub struct WangQuery {
     pub q_len: usize,
 }
 
+impl WangQuery {
+    // What it asks at the gates.
+    fn thresholds(self) -> Thresholds
+        ensures { result ≡ thresholds_of self }
+    {
+        Thresholds {
+            rate: self.frames_per_sec,
+            min_votes: self.cfg.min_votes,
+            min_score: self.cfg.min_score,
+            min_prominence: self.cfg.min_prominence,
+        }
+    }
+
+    // How far from a centre a vote may lie.
+    fn tolerance(self) -> u64
+        ensures { result ≡ self.cfg.offset_tolerance_frames }
+    {
+        u64::from(self.cfg.offset_tolerance_frames)
+    }
+}
+
 // The sweep over the n bins from word `at` on, from -q_max to r_max.
-fn peak_of(s: &[i64], at: usize, n: usize, tol: u64, q_max: u64, r_max: u64) -> Peak
-    requires { (at ≤ length s.now) × (q_max < 2 ^ 32) × (r_max < 2 ^ 32) × Span (drop at s.now) n tol (neg_ℤ (pos q_max)) (pos r_max) }
+fn peak_of(s: &[i64], at: usize, n: usize, tol: u64, q_max: u32, r_max: u32) -> Peak
+    requires { (at ≤ length s.now) × Span (drop at s.now) n tol (neg_ℤ (pos q_max)) (pos r_max) }
     ensures { result ≡ box_peak (drop at s.now) n tol (neg_ℤ (pos q_max)) (pos r_max) }
 {
-    let top = q_max as i64;
-    let high = r_max as i64;
-    let low = 0 - top;
-    consolidate::sparse_wang_box_peak(&s[at..], n, tol, low, high)
+    let low = -i64::from(q_max);
+    consolidate::sparse_wang_box_peak(&s[at..], n, tol, low, i64::from(r_max))
 }
 
 // How far c lies above the low end.
-fn above_low(c: i64, q_max: u64) -> u64
-    requires { (q_max < 2 ^ 32) × T (non_neg (c +ℤ pos q_max)) × (nat_abs (c +ℤ pos q_max) ≤ 2 ^ 40) }
+fn above_low(c: i64, q_max: u32) -> u64
+    requires { nat_abs (c +ℤ pos q_max) ≤ 2 ^ 40 }
     ensures { result ≡ nat_abs (c +ℤ pos q_max) }
 {
-    let top = q_max as i64;
-    let d = c + top;
-    d as u64
+    (c + i64::from(q_max)).unsigned_abs()
 }
 
 // The score at a centre, from the g votes from word a on.
@@ -80,16 +98,8 @@ fn score_at(s: &[i64], a: usize, g: usize, q: WangQuery, centre: i64) -> f32
         × T (non_neg (centre +ℤ pos q.q_max)) × (nat_abs (centre +ℤ pos q.q_max) ≤ 2 ^ 40) }
     ensures { result ≡ score_of (distinct (counts_in q.q_max s.now a g) q.cfg.offset_tolerance_frames centre q.q_len) q.q_len }
 {
-    let cfg = q.cfg;
-    let x = above_low(centre, slices::wide(q.q_max));
-    let n = bins::distinct_positions(
-        s,
-        a,
-        g,
-        slices::wide(cfg.offset_tolerance_frames),
-        x,
-        q.q_len,
-    );
+    let x = above_low(centre, q.q_max);
+    let n = bins::distinct_positions(s, a, g, q.tolerance(), x, q.q_len);
     matching::score(n, q.q_len as u64)
 }
 
@@ -103,34 +113,19 @@ fn weigh(
     q: WangQuery,
     fps: f32,
     r_max: u32,
-) -> Verdict
+) -> Option<MatchResult>
     requires { Counted s.now a g at n q r_max }
     ensures { result ≡ verdict_of (passing (peak_gates (thresholds_of q) (at_peak (seen_in q r_max s.now a g))) (result_of fps (seen_in q r_max s.now a g))) }
 {
-    let cfg = q.cfg;
-    let low = slices::wide(q.q_max);
-    let high = slices::wide(r_max);
-    let peak = peak_of(
-        s,
-        at,
-        n,
-        slices::wide(cfg.offset_tolerance_frames),
-        low,
-        high,
-    );
-    let votes = peak.votes;
-    if votes < slices::wide(cfg.min_votes) {
-        return Verdict::Barred;
-    }
-    let prominence = matching::wang_prominence(votes, peak.total, low + high + 1);
-    if matching::below_threshold(prominence, cfg.min_prominence) {
-        return Verdict::Barred;
-    }
-    let score = score_at(s, a, g, q, peak.centre);
-    if matching::below_threshold(score, cfg.min_score) {
-        return Verdict::Barred;
-    }
-    Verdict::Passed(gates::result(score, votes, prominence, peak.mode, fps, 1.0))
+    let peak = peak_of(s, at, n, q.tolerance(), q.q_max, r_max);
+    let width = u64::from(q.q_max) + u64::from(r_max) + 1;
+    gates::weigh(
+        q.thresholds(),
+        peak.votes,
+        move || matching::wang_prominence(peak.votes, peak.total, width),
+        move || score_at(s, a, g, q, peak.centre),
+        move |p| gates::result(p, peak.mode, fps, 1.0),
+    )
 }
 
 // A candidate: the g votes from word a on, in order, and its row's rate and r_max. Its bins are written from word `at` on.
@@ -142,15 +137,14 @@ pub fn judge(
     q: WangQuery,
     rate: u32,
     r_max: u32,
-) -> Verdict
+) -> Option<MatchResult>
     requires { Candidate s.old a g at q r_max }
     ensures { (result ≡ verdict_of (judge_by q rate r_max (counts_in q.q_max s.old a g)))
         × SameOutside s.old s.new at (at + 2 * g) }
 {
-    let cfg = q.cfg;
     let fps = floats::f32_from_bits(rate);
-    if !gates::admitted(q.frames_per_sec, fps, cfg.min_votes, g) {
-        return Verdict::Barred;
+    if !gates::admitted(q.thresholds(), fps, g) {
+        return None;
     }
     let form = Form {
         low: 0,
@@ -158,6 +152,6 @@ pub fn judge(
         size: 33,
         scaled: false,
     };
-    let n = bins::count_sorted(s, a, g, at, form, slices::wide(q.q_max));
+    let n = bins::count_sorted(s, a, g, at, form, u64::from(q.q_max));
     weigh(s, a, g, at, n, q, fps, r_max)
 }
