@@ -1,4 +1,5 @@
 -- Laws that belong to no one function.
+pub mod Passes
 pub mod Rows
 pub mod Vacant
 pub mod Postings

@@ -1,6 +1,6 @@
 -- The postings, one after the other: keys that ascend, ids and anchors. Assumes nothing.
 use mathlib.Core.Path.{◌≡◌, refl}
-use mathlib.Core.Bool.{true, false}
+use mathlib.Core.Bool.{true, false, ◌&&◌, and-false}
 use mathlib.Core.List.{List}
 use Prim.Native.Nat.{ℕ, zero, suc, ◌+◌, ◌-◌, ◌≤◌, ◌<◌}
 use native.Mathlib.Omega.{arith}
@@ -65,3 +65,11 @@ module _ (w : ℕ) (rs : List ℕ) (n : ℕ) (ps : List ℕ) (i : ℕ) {id : ℕ
   pub entry-wang : id < n → row_word rs id at_live ≡ 1 → w ≡ 3 → entry_fine w rs n ps i ≡ leb (posting_word ps w i 2) (row_word rs id at_rmax)
   unfolding entry_fine posting_live live_id anchor_fine
   entry-wang h d o = rw (← e, lt-ltb id n h, eq-eqb (row_word rs id at_live) 1 d, eq-eqb w 3 o)
+
+-- where posting i fails, the pass fails
+module _ (w : ℕ) (rs : List ℕ) (n : ℕ) (ps : List ℕ) (p i last : ℕ) (a : Ascended ps w i last) (l : i < p) where
+  pub pass-descends : key_at ps w i < last → keys_ascend ps w p && every p (entry_fine w rs n ps) ≡ false
+  pass-descends h = rw (ascended-fail ps w i last p a l h)
+
+  pub pass-fails : entry_fine w rs n ps i ≡ false → keys_ascend ps w p && every p (entry_fine w rs n ps) ≡ false
+  pass-fails h = rw (every-fail (entry_fine w rs n ps) p i l h, and-false)

@@ -15,17 +15,17 @@ use Rattle.model.specs.Words.{at_rate, at_rmax, at_live, at_vacant, at_set}
 use Rattle.soundness.specs.Scan.{set_test, row_test, row_fine}
 
 -- "a live NaN rate is stored as that word"
-pub canonical-yes : (rate : ℕ) → rate ≡ no_rate → is_canonical rate ≡ true
+pub canonical_yes : (rate : ℕ) → rate ≡ no_rate → is_canonical rate ≡ true
 unfolding is_canonical
-canonical-yes rate e = rw (eq-eqb rate no_rate e) (or-true (not (nan_bits binary32 rate)))
+canonical_yes rate e = rw (eq-eqb rate no_rate e) (or-true (not (nan_bits binary32 rate)))
   where
     or-true : (b : Bool) → b || true ≡ true
     or-true true = refl
     or-true false = refl
 
-pub canonical-test : (rate : ℕ) → (rate ≡ no_rate → ⊥) → leb (rate % 0x8000_0000) 0x7F80_0000 ≡ is_canonical rate
+pub canonical_test : (rate : ℕ) → (rate ≡ no_rate → ⊥) → leb (rate % 0x8000_0000) 0x7F80_0000 ≡ is_canonical rate
 unfolding is_canonical
-canonical-test rate d = rw (ne_eqb rate no_rate d, nan_bits_above binary32 rate) (turned (rate % 0x8000_0000) 0x7F80_0000)
+canonical_test rate d = rw (ne_eqb rate no_rate d, nan_bits_above binary32 rate) (turned (rate % 0x8000_0000) 0x7F80_0000)
   where
     turned : (a b : ℕ) → leb a b ≡ not (ltb b a) || false
     turned a b = test (leb a b)
@@ -52,10 +52,10 @@ module _ (s : List ℕ) (a i : ℕ) (h : a ≤ i) where
   here : a + (i - a) ≡ i
   here = omega arith
 
-  pub unused-yes : row_word s i at_vacant ≡ 0 → entry_unused s a (i - a) ≡ true
+  pub unused_yes : row_word s i at_vacant ≡ 0 → entry_unused s a (i - a) ≡ true
   unfolding entry_unused
-  unused-yes e = rw here (eq-eqb (row_word s i at_vacant) 0 e)
+  unused_yes e = rw here (eq-eqb (row_word s i at_vacant) 0 e)
 
-  pub unused-no : (row_word s i at_vacant ≡ 0 → ⊥) → entry_unused s a (i - a) ≡ false
+  pub unused_no : (row_word s i at_vacant ≡ 0 → ⊥) → entry_unused s a (i - a) ≡ false
   unfolding entry_unused
-  unused-no e = rw here (ne_eqb (row_word s i at_vacant) 0 e)
+  unused_no e = rw here (ne_eqb (row_word s i at_vacant) 0 e)

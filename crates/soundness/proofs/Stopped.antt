@@ -5,18 +5,19 @@ use mathlib.Core.Bool.{true, false, ◌&&◌}
 use mathlib.Core.List.{List}
 use Prim.Native.Nat.{ℕ, ◌+◌, ◌-◌, ◌≤◌, ◌<◌}
 use native.Mathlib.Omega.{arith}
-use lib.ListN.{get_or}
+use Rattle.std.proofs.lemmas.List.{get_or-take, length-take-le}
+use lib.ListN.{length, get_or, take}
 use lib.Dec.{ltb, eqb}
 use borrow.Author.Tests.{ltb-true, lt-ltb, le-ltb, eq-eqb, ne_eqb, eqb-true, eqb-false}
 use Rattle.lists.specs.Every.{every}
-use Rattle.lists.specs.Entries.{key_at, keys_ascend}
+use Rattle.lists.specs.Entries.{key_at, keys_ascend, zero_from}
 use Rattle.lists.proofs.Tests.{le-or-lt, and_left, and_right, yes_and}
-use Rattle.lists.proofs.Every.{every-at, every-make, every-fail}
+use Rattle.lists.proofs.Every.{every-at, every-make, every-fail, every-same}
 use Rattle.lists.proofs.Entries.{keys-le}
 use Rattle.model.specs.Soundness.{stopped_step, other_key, key_unstopped}
 use Rattle.maps.specs.Entries.{first_at, Split}
 use Rattle.maps.proofs.Entries.{first-splits}
-use Rattle.soundness.specs.Scan.{stops_ascend}
+use Rattle.soundness.specs.Scan.{stops_ascend, stopped_sound}
 
 module _ (ss : List ℕ) (i : ℕ) where
   pub step-yes : get_or ss i 0 < get_or ss (i + 1) 0 → stopped_step ss i ≡ true
@@ -102,3 +103,37 @@ pub walked-out : (w : ℕ) (ss : List ℕ) (k : ℕ) (ps : List ℕ) (p i : ℕ)
 unfolding key_unstopped
 walked-out w ss k ps p i s =
     every-make (key_unstopped w ss k ps) p (λ b hb. every-make (other_key ss (key_at ps w b)) k (λ a ha. other-yes ss (key_at ps w b) a (λ e. s.none a b ha hb e)))
+
+-- the first k stopped keys alone say the same
+module _ (ss : List ℕ) (k : ℕ) (h : k ≤ length ss) where
+  long : length (take k ss) ≡ k
+  long = length-take-le k ss h
+
+  pub stops-front : stops_ascend (take k ss) (length (take k ss)) ≡ stops_ascend ss k
+  unfolding stops_ascend stopped_step
+  stops-front = rw long (every-same (stopped_step (take k ss)) (stopped_step ss) (k - 1) (λ i l.
+      let a : i < k = omega arith in
+      let b : i + 1 < k = omega arith in
+      rw (get_or-take k ss i 0 a, get_or-take k ss (i + 1) 0 b)))
+
+  pub none-front : (w : ℕ) (ps : List ℕ) (p : ℕ) → every p (key_unstopped w (take k ss) (length (take k ss)) ps) ≡ every p (key_unstopped w ss k ps)
+  unfolding key_unstopped other_key
+  none-front w ps p = rw long (every-same (key_unstopped w (take k ss) k ps) (key_unstopped w ss k ps) p (λ i l.
+      every-same (other_key (take k ss) (key_at ps w i)) (other_key ss (key_at ps w i)) k (λ j m. rw (get_or-take k ss j 0 m))))
+
+  -- so the stopped keys are sound exactly if the first k ascend, no posting has one of them, and the rest are zero
+  pub stops-yes : (w : ℕ) (ps : List ℕ) (p : ℕ) → stops_ascend (take k ss) (length (take k ss)) ≡ true
+      → every p (key_unstopped w (take k ss) (length (take k ss)) ps) ≡ true → stopped_sound w ss k ps p ≡ zero_from ss k
+  unfolding stopped_sound
+  stops-yes w ps p a b = rw (sym stops-front ∙ a, sym (none-front w ps p) ∙ b)
+
+  pub stops-none : (w : ℕ) (ps : List ℕ) (p : ℕ) → stops_ascend (take k ss) (length (take k ss)) ≡ true
+      → every p (key_unstopped w (take k ss) (length (take k ss)) ps) ≡ false → stopped_sound w ss k ps p ≡ false
+  unfolding stopped_sound
+  stops-none w ps p a b = rw (sym stops-front ∙ a, sym (none-front w ps p) ∙ b)
+
+  pub stops-no : (w : ℕ) (ps : List ℕ) (p : ℕ) → stops_ascend (take k ss) (length (take k ss)) ≡ false → stopped_sound w ss k ps p ≡ false
+  unfolding stopped_sound
+  stops-no w ps p a = rw (sym stops-front ∙ a)
+
+pub ruleset stops = (stops-yes, stops-none, stops-no)

@@ -1,6 +1,6 @@
 -- The vacant entries: marks of the ids that were named. Assumes nothing.
 use mathlib.Core.Path.{◌≡◌, sym, ap, ◌∙◌}
-use mathlib.Core.Bool.{Bool, true, false, cond, and-true, and-false}
+use mathlib.Core.Bool.{Bool, true, false, not, and-true, and-false}
 use mathlib.Core.List.{List}
 use Prim.Native.Nat.{ℕ, ◌+◌, ◌≤◌, ◌<◌}
 use native.Mathlib.Omega.{arith}
@@ -25,41 +25,38 @@ other-no : (rs : List ℕ) (x i : ℕ) → row_word rs i at_vacant ≡ x → oth
 unfolding other_than
 other-no rs x i h = rw (eq-eqb (row_word rs i at_vacant) x h)
 
--- the marks after j vacant entries: 1 where one of them names the id
-pub record Marked (rs marks : List ℕ) (j : ℕ) : Type 0 where
+-- the marks after j vacant entries: the ids that one of them names
+pub record Marked (rs : List ℕ) (marks : List Bool) (j : ℕ) : Type 0 where
   pub len : length marks ≡ 4096
-  pub mark : (x : ℕ) → x < 4096 → get_or marks x 0 ≡ cond (unnamed rs j x) 0 1
+  pub mark : (x : ℕ) → x < 4096 → get_or marks x false ≡ not (unnamed rs j x)
 
-pub marked-none : (rs : List ℕ) → Marked rs (replicate 4096 0) 0
+pub marked-none : (rs : List ℕ) → Marked rs (replicate 4096 false) 0
 unfolding unnamed
 marked-none rs = record {
-  len = length-replicate {A = ℕ} 4096 0;
-  mark = λ x h. get_or-replicate {A = ℕ} 4096 x 0 0 h ∙ rw (every-none (other_than rs x));
+  len = length-replicate {A = Bool} 4096 false;
+  mark = λ x h. get_or-replicate {A = Bool} 4096 x false false h ∙ rw (every-none (other_than rs x));
 }
 
-module _ (rs marks : List ℕ) (j x : ℕ) (m : Marked rs marks j) (h : x < 4096) where
-  read : (b : Bool) → unnamed rs j x ≡ b → get_or marks x 0 ≡ cond b 0 1
-  read b e = m.mark x h ∙ rw e
+module _ (rs : List ℕ) (marks : List Bool) (j x : ℕ) (m : Marked rs marks j) (h : x < 4096) where
+  pub marked-free : get_or marks x false ≡ false → unnamed rs j x ≡ true
+  marked-free z = test (unnamed rs j x) (λ e. e) (λ e. let k = m.mark x h in cc)
 
-  pub marked-free : get_or marks x 0 ≡ 0 → unnamed rs j x ≡ true
-  marked-free z = test (unnamed rs j x) (λ e. e) (λ e. absurd (omega (arith, read false e)))
+  pub marked-taken : get_or marks x false ≡ true → unnamed rs j x ≡ false
+  marked-taken z = test (unnamed rs j x) (λ e. let k = m.mark x h in cc) (λ e. e)
 
-  pub marked-taken : (get_or marks x 0 ≡ 0 → ⊥) → unnamed rs j x ≡ false
-  marked-taken z = test (unnamed rs j x) (λ e. absurd (z (read true e))) (λ e. e)
-
-  pub marked_more : row_word rs j at_vacant ≡ x → Marked rs (set marks x 1) (j + 1)
+  pub marked_more : row_word rs j at_vacant ≡ x → Marked rs (set marks x true) (j + 1)
   unfolding unnamed
   marked_more e = record {
     len = simp length-set m.len;
     mark = λ y hy. go y hy (ℕ_discrete y x);
   }
     where
-      go : (y : ℕ) → y < 4096 → Dec (y ≡ x) → get_or (set marks x 1) y 0 ≡ cond (unnamed rs (j + 1) y) 0 1
+      go : (y : ℕ) → y < 4096 → Dec (y ≡ x) → get_or (set marks x true) y false ≡ not (unnamed rs (j + 1) y)
       go y hy (yes q) =
-          ap (λ (k : ℕ). get_or (set marks x 1) k 0) q ∙ get_or-set_same marks x 1 0 (omega (arith, m.len))
+          ap (λ (k : ℕ). get_or (set marks x true) k false) q ∙ get_or-set_same marks x true false (omega (arith, m.len))
           ∙ rw (add-one j, every-suc (other_than rs y) j, other-no rs y j (e ∙ sym q), and-false)
       go y hy (no q) =
-          get_or-set_other marks x y 1 0 q ∙ m.mark y hy
+          get_or-set_other marks x y true false q ∙ m.mark y hy
           ∙ rw (add-one j, every-suc (other_than rs y) j, other-yes rs y j (λ z. q (sym z ∙ e)), and-true)
 
 -- the test of entry j, x being what it says

@@ -1,9 +1,11 @@
 -- The papers' conditions as the scan looks at them, each pass in one test. Definitions only. Assumes nothing.
-use Rattle.std.specs.Prelude.{◌≡◌, Bool, cond, not, ◌&&◌, ◌||◌, List, ℕ, zero, suc, ◌+◌, ◌*◌, ◌-◌, ◌≤◌, length, eqb, leb}
+use Rattle.std.specs.Prelude.{◌≡◌, Bool, cond, not, ◌&&◌, ◌||◌, List, ℕ, zero, suc, ◌+◌, ◌*◌, ◌-◌, ◌≤◌, Result, IfOk, length, eqb, leb}
 use Rattle.std.specs.Borrow.{Bor}
 use Rattle.lists.specs.Every.{every, count}
 use Rattle.lists.specs.Entries.{key_at, keys_ascend, zero_from}
 use Rattle.postings.specs.Retain.{Noted}
+use Rattle.refusals.specs.declared.Refusal.{Refusal}
+use Rattle.refusals.specs.Numbers.{number_in}
 use Rattle.model.specs.Rows.{has_rmax, no_rate, is_canonical, is_set}
 use Rattle.model.specs.Calls.{Sizes}
 use Rattle.model.specs.Words.{Words, slices_listed, head_width, row_width, at_vacant}
@@ -63,9 +65,9 @@ unfoldable pub sound_at : ℕ → Sizes → List ℕ → List ℕ → List ℕ �
 sound_at w z rs ps ss n v p k = counts_fit z n v p k && (rows_sound w rs n v && (postings_sound w rs n ps p && stopped_sound w ss k ps p))
 
 -- what a pass over p postings finds that also lists those of recording id: whether a condition fails, and else how many there are
-pub record Met (w : ℕ) (rs : List ℕ) (n : ℕ) (ps : List ℕ) (p id : ℕ) (list : List ℕ) (number own : ℕ) : Type 0 where
-  pub found : number ≡ cond (keys_ascend ps w p && every p (entry_fine w rs n ps)) 0 2
-  pub noted : number ≡ 0 → Noted w p 1 id ps p list own
+pub record Met (w : ℕ) (rs : List ℕ) (n : ℕ) (ps : List ℕ) (p id : ℕ) (list : List ℕ) (r : Result ℕ Refusal) : Type 0 where
+  pub found : number_in r ≡ cond (keys_ascend ps w p && every p (entry_fine w rs n ps)) 0 2
+  pub noted : IfOk r (λ own. Noted w p 1 id ps p list own)
 
 -- the slices and the numbers in use, where they fit
 pub record Fits (w : ℕ) (rs ps ss : List ℕ) (n v p k : ℕ) : Type 0 where
