@@ -24,6 +24,10 @@ use Rattle.maps.proofs.Sums.{sum-zero, sum-flat}
 pub scale-le : (w n : ℕ) → 1 ≤ w → n ≤ w * n
 scale-le w n h = rw one-mul at (mul-le-mul_right n h)
 
+-- is the key of entry i at most the next?
+abbrev pub key_step : List ℕ → ℕ → ℕ → Bool
+key_step ps w i = leb (key_at ps w i) (key_at ps w (i + 1))
+
 -- ---- a search among ascending keys
 module _ (ps : List ℕ) (w : ℕ) where
   pub ascend-prefix : (q p : ℕ) → q ≤ p → keys_ascend ps w p ≡ true → keys_ascend ps w q ≡ true

@@ -6,7 +6,6 @@ use mathlib.Core.List.{List, [], ◌∷◌, ◌++◌}
 use native.Mathlib.Omega.{arith}
 use lib.ListN.{length, get_or, take}
 use lib.Seq.{take-suc}
-use Rattle.lists.proofs.Tests.{test}
 use Rattle.maps.specs.Sums.{sum_to, when}
 use Rattle.maps.specs.Lists.{count_if}
 use Rattle.maps.proofs.Tests.{when-le}

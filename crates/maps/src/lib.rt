@@ -9,8 +9,6 @@ ghost use Rattle.maps.specs.Words.{nat_of};
 ghost use Rattle.maps.specs.Entries.{first_at, Split};
 ghost use Rattle.maps.specs.Puts.{entry_of, put};
 
-use slices::wide;
-
 // The key of entry i, of entries w words wide.
 pub fn key_at(posts: &[u32], w: usize, i: usize) -> u32
     requires { w * i < length posts.now }
@@ -25,9 +23,9 @@ pub fn put_entry(posts: &mut [u32], to: usize, hashes: &[u32], v: usize, j: usiz
     ensures { posts.new ≡ put posts.old to (entry_of v hashes.now id j) }
 {
     let from = v * j;
-    posts[to] = slices::at(hashes, from);
+    posts[to] = hashes[from];
     posts[to + 1] = id;
-    slices::copy_words(posts, to + 2, hashes, from + 1, v - 1);
+    posts[to + 2..to + v + 1].copy_from_slice(&hashes[from + 1..from + v]);
 }
 
 // Whether the keys of the first p entries ascend.
@@ -35,17 +33,16 @@ pub fn keys_ascend(posts: &[u32], w: usize, p: usize) -> bool
     requires { (1 ≤ w) × (w * p ≤ length posts.now) }
     ensures { result ≡ keys_ascend posts.now w p }
 {
-    let mut i = 0;
-    while i + 1 < p {
-        if key_at(posts, w, i + 1) < key_at(posts, w, i) {
+    for i in 1..p {
+        if key_at(posts, w, i) < key_at(posts, w, i - 1) {
             return false;
         }
-        i += 1;
     }
     true
 }
 
-// The first of the entries from `from` below `to` whose key is at least `key`, by halving.
+// The first of the entries from `from` below `to` whose key is at least `key`, by halving. The library's `partition_point`
+// halves a slice of keys, and here a key is followed by the other words of its entry.
 fn search(posts: &[u32], w: usize, from: usize, to: usize, key: u64) -> usize
     requires { (1 ≤ w) × (from ≤ to) × (w * to ≤ length posts.now) × (keys_ascend posts.now w to ≡ true) }
     ensures { Split posts.now w from to key result }
@@ -54,7 +51,7 @@ fn search(posts: &[u32], w: usize, from: usize, to: usize, key: u64) -> usize
     let mut hi = to;
     while lo < hi {
         let mid = lo + ((hi - lo) >> 1);
-        if wide(key_at(posts, w, mid)) < key {
+        if u64::from(key_at(posts, w, mid)) < key {
             lo = mid + 1;
         } else {
             hi = mid;
@@ -82,7 +79,7 @@ pub fn first_from(posts: &[u32], w: usize, p: usize, from: usize, key: u64) -> u
     let mut reach = 1;
     while reach < p - lo {
         let at = lo + reach;
-        if key <= wide(key_at(posts, w, at)) {
+        if key <= u64::from(key_at(posts, w, at)) {
             return search(posts, w, lo, at, key);
         }
         lo = at + 1;
@@ -96,18 +93,7 @@ pub fn contains(s: &[u32], n: usize, key: u32) -> bool
     requires { (n ≤ length s.now) × Ascending (λ k. k) (take n s.now) }
     ensures { result ≡ member key (take n s.now) }
 {
-    let i = first_at(s, 1, n, wide(key));
-    if n <= i {
-        return false;
-    }
-    slices::at(s, i) == key
-}
-
-fn between(s: &[u32], a: usize, e: usize) -> &[u32]
-    requires { (a ≤ e) × (e ≤ length s.now) }
-    ensures { result.now ≡ take (e - a) (drop a s.now) }
-{
-    &s[a..e]
+    s[..n].binary_search(&key).is_ok()
 }
 
 // Where the entries of a key end, of which the first stands at a, or would.
@@ -115,14 +101,12 @@ fn end_from(posts: &[u32], w: usize, p: usize, a: usize, key: u32) -> usize
     requires { (1 ≤ w) × (w * p ≤ length posts.now) × (keys_ascend posts.now w p ≡ true) × (a ≡ first_at posts.now w p key) }
     ensures { result ≡ first_at posts.now w p (key + 1) }
 {
-    let mut e = a;
-    while e < p {
+    for e in a..p {
         if key_at(posts, w, e) != key {
             return e;
         }
-        e += 1;
     }
-    e
+    p
 }
 
 // The postings under a key: a part that starts wherever the key begins, which is at entry a.
@@ -132,14 +116,14 @@ pub fn part_at(posts: &[u32], w: usize, p: usize, a: u32, key: u32) -> &[u32]
 {
     let from = a as usize;
     let e = end_from(posts, w, p, from, key);
-    between(posts, w * from, w * e)
+    &posts[w * from..w * e]
 }
 
 // The natural number in a word, 0 where the word is negative.
 fn natural(x: i64) -> u64
     ensures { (result ≡ nat_of x) × (result < 2 ^ 63) }
 {
-    if 0 <= x { x as u64 } else { 0 }
+    u64::try_from(x).unwrap_or(0)
 }
 
 // The natural number in word i.
@@ -155,23 +139,18 @@ pub fn put_word(s: &mut [i64], i: usize, v: u64)
     requires { (i < length s.old) × (v < 2 ^ 63) }
     ensures { s.new ≡ set s.old i (pos v) }
 {
-    let w = v as i64;
-    s[i] = w;
+    s[i] = v as i64;
 }
 
 // Sets every word to 0, as a query leaves its scratch.
 pub fn zero_words(s: &mut [i64])
     ensures { s.new ≡ replicate (length s.old) (pos 0) }
 {
-    let mut i = 0;
-    while i < s.len() {
-        s[i] = 0;
-        i += 1;
-    }
+    s.fill(0);
 }
 
 pub fn smaller(a: u64, b: u64) -> u64
     ensures { result ≡ min a b }
 {
-    if a <= b { a } else { b }
+    a.min(b)
 }
