@@ -6,4 +6,5 @@ pub mod Voting
 pub mod Counting
 pub mod Turns
 pub mod Walks
+pub mod Parts
 pub mod Eighths

@@ -1,7 +1,7 @@
-// Where the postings of each query hash begin and end, whose postings vote, and how many do.
+// Where the postings of each query hash begin and end, whose postings vote, how many do, and the words of the votes.
 #![tactic(auto)]
 
-ghost use Rattle.std.specs.Prelude.{◌≡◌, ℕ, ◌+◌, ◌-◌, ◌*◌, ◌/◌, ◌^◌, ◌<◌, ◌≤◌, min, ◌&&◌, length, drop, ◌==◌, nat_lt, slice_index};
+ghost use Rattle.std.specs.Prelude.{◌≡◌, ℕ, ℤ, List, ◌++◌, ◌+◌, ◌-◌, ◌*◌, ◌/◌, ◌^◌, ◌<◌, ◌≤◌, min, ◌&&◌, length, drop, take, ◌==◌, nat_lt, slice_index};
 ghost use Rattle.lists.specs.Lists.{flat};
 ghost use Rattle.lists.specs.Keys.{under};
 ghost use Rattle.lists.specs.Entries.{entries, key_at, key_of};
@@ -9,6 +9,7 @@ ghost use Rattle.maps.specs.Sums.{when};
 ghost use Rattle.maps.specs.Entries.{first_at};
 ghost use Rattle.query_search.specs.Starts.{Starts, Ends, met, Zeros, Windows, Sought, pivots_below};
 ghost use Rattle.query_search.specs.Voting.{may_vote, voting, HasRow, Rowed};
+ghost use Rattle.query_search.specs.Gathered.{words_by, Ids};
 
 // `half` where x is below the key, and nothing where not. It has no branch, which would be mispredicted every other time: the upper half of
 // x − key is all ones just where x is below the key.
@@ -277,4 +278,38 @@ impl<'a, const W: usize, const H: usize> Search<'a, W, H> {
         let to = e as usize;
         &self.posts[from..to]
     }
+}
+
+// A query hash that votes with postings of W words.
+pub trait Votes<const W: usize>: Copy {
+    // The words of its votes, none or one, with a posting.
+    ghost words_with: { Self → List ℕ → List ℤ };
+
+    // They go to the words from `at` on. Yields where they end.
+    fn put(self, s: &mut [i64], at: usize, posting: &[u32; W]) -> usize
+        requires { (slice_index posting.now 1 < 2 ^ 12) × (at + length (words_with self posting.now) ≤ length s.old) }
+        ensures { (result ≡ at + length (words_with self posting.now)) × (take result s.new ≡ take at s.old ++ words_with self posting.now) };
+}
+
+// The votes of a query hash with those postings of a part that vote go to the words from `at` on. Yields where they end.
+pub fn gather_part<const W: usize, H: Votes<W>>(
+    s: &mut [i64],
+    at: usize,
+    voters: Voters,
+    part: &[u32],
+    hash: H,
+) -> usize
+    requires { (W < 2 ^ 32) × Rowed voters.refs.now part.now W (length part.now / W) × Ids (entries W (length part.now / W) part.now)
+        × (at + length (words_by (H.words_with hash) (voting voters.set voters.refs.now (entries W (length part.now / W) part.now))) ≤ length s.old) }
+    ensures { (result ≡ at + length (words_by (H.words_with hash) (voting voters.entry.set voters.entry.refs.now (entries W (length part.now / W) part.now))))
+        × (take result s.new ≡ take at s.old ++ words_by (H.words_with hash) (voting voters.entry.set voters.entry.refs.now (entries W (length part.now / W) part.now))) }
+{
+    let (postings, _) = part.as_chunks::<W>();
+    let mut v = at;
+    for posting in postings {
+        if voters.may_vote(posting[1]) {
+            v = hash.put(s, v, posting);
+        }
+    }
+    v
 }

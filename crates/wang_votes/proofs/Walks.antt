@@ -3,7 +3,7 @@ use mathlib.Core.Path.{◌≡◌, refl, sym, subst, ap, ap₂, ◌∙◌}
 use mathlib.Core.Logic.{◌⊎◌, inl, inr}
 use mathlib.Core.Bool.{Bool, true, false, cond, ◌&&◌}
 use mathlib.Core.List.{List, [], ◌∷◌, ◌++◌, append-nil}
-use Prim.Native.Nat.{ℕ, suc, ◌+◌, ◌*◌, ◌-◌, ◌^◌, ◌≤◌, ◌<◌}
+use Prim.Native.Nat.{ℕ, suc, ◌+◌, ◌*◌, ◌/◌, ◌-◌, ◌^◌, ◌≤◌, ◌<◌}
 use native.Mathlib.Nat.{eq-or-lt_of_le}
 use native.Mathlib.Omega.{arith}
 use lib.IntN.{ℤ, pos}
@@ -17,45 +17,25 @@ use Rattle.lists.specs.Entries.{entries, entry_at, key_of, keys_ascend}
 use Rattle.lists.proofs.Tests.{test, and_left, yes_and}
 use Rattle.lists.proofs.Entries.{entry_key, entry-word}
 use Rattle.maps.specs.Entries.{first_at}
-use Rattle.maps.proofs.Entries.{first-splits, part-entries}
+use Rattle.maps.proofs.Entries.{first-splits, first-le, part-entries}
 use Rattle.bins.specs.Votes.{packed}
 use Rattle.query_search.specs.Starts.{met}
 use Rattle.query_search.proofs.Meeting.{under-many, under-entries}
-use Rattle.query_search.specs.declared.Voters.{Voters}
-use Rattle.query_search.specs.Voting.{may_vote, voting, if_voting}
-use Rattle.query_search.proofs.Voting.{under-voting, if_yes, if_no}
+use Rattle.query_search.specs.Voting.{may_vote, voting, HasRow, Rowed}
+use Rattle.query_search.proofs.Voting.{under-voting, rowed-word, rowed-part}
 use Rattle.query_search.proofs.Counting.{few-votes, votes-all}
 use Rattle.maps.specs.Sums.{when}
 use Rattle.maps.proofs.Sums.{keep-le}
-use native.Mathlib.Numerals.{add-one}
 use Rattle.query_search.specs.Gathered.{found, words_by, words_of, words_from, Ids}
-use Rattle.query_search.proofs.Walks.{none_of, firsts, id_below}
+use Rattle.query_search.proofs.Walks.{none_of, firsts, id_below, part-many, part-ids}
 use Rattle.query_search.proofs.Walks as walks
-use Rattle.wang_votes.specs.Gathered.{vote_word, word_with, pair_word, words_on}
+use Rattle.wang_votes.specs.Gathered.{vote_word, pair_word, words_on}
 
 -- ---- the words of a part, written one after the other
 
 module _ (part : List ℕ) (shift q : ℕ) where
   pub word-is : (j : ℕ) → vote_word shift q (entry_at 3 j part) ≡ packed (get_or part (3 * j + 1) 0) (get_or part (3 * j + 2) 0 + shift) q
   word-is j = rw (entry-word 3 j part 1 (omega arith), entry-word 3 j part 2 (omega arith)) refl
-
-  -- put behind the first `at` words, where the posting votes, and where it doesn't
-  module _ (v : Voters) (rs : List ℕ) (j : ℕ) where
-    pub put_one : (s s' : List ℤ) (at : ℕ) → may_vote v rs (get_or part (3 * j + 1) 0) ≡ true → at < length s
-        → s' ≡ set s at (pos (packed (get_or part (3 * j + 1) 0) (get_or part (3 * j + 2) 0 + shift) q))
-        → (at + 1 ≡ at + length (if_voting v rs (word_with shift q) (entry_at 3 j part))) × (take (at + 1) s' ≡ take at s ++ if_voting v rs (word_with shift q) (entry_at 3 j part))
-    put_one s s' at y h e =
-        let word = pos (packed (get_or part (3 * j + 1) 0) (get_or part (3 * j + 2) 0 + shift) q) in
-        let k : if_voting v rs (word_with shift q) (entry_at 3 j part) ≡ word ∷ [] = if_yes v rs (word_with shift q) 3 j part (omega arith) y ∙ ap (λ (x : ℕ). pos x ∷ []) (word-is j) in
-        rw (k, e, add-one at) (refl, take-suc-set s at word h)
-
-    pub put-none : (s : List ℤ) (at : ℕ) → may_vote v rs (get_or part (3 * j + 1) 0) ≡ false
-        → (at ≡ at + length (if_voting v rs (word_with shift q) (entry_at 3 j part))) × (take at s ≡ take at s ++ if_voting v rs (word_with shift q) (entry_at 3 j part))
-    put-none s at n = rw (if_no v rs (word_with shift q) 3 j part (omega arith) n) (omega arith, sym (append-nil (take at s)))
-
-    -- there is room for one
-    pub one-room : (at n : ℕ) → may_vote v rs (get_or part (3 * j + 1) 0) ≡ true → at + length (if_voting v rs (word_with shift q) (entry_at 3 j part)) ≤ n → at < n
-    one-room at n y h = let l = rw (if_yes v rs (word_with shift q) 3 j part (omega arith) y) at h in omega arith
 
 -- ---- the postings from number a on, of p
 
@@ -93,6 +73,20 @@ module _ (s : List ℤ) (at : ℕ) (x : ℤ) (b : Bool) where
   pub unwritten : b && ltb at (length s) ≡ false → s ≡ cond b (set s at x) s
   unwritten e = test b (λ y. rw y (sym (set_out s at x (ltb-false at (length s) (sym (yes_and b (ltb at (length s)) y) ∙ e))))) (λ n. rw n)
 
+-- ---- each posting gives one vote
+
+pub one-with-each : (shift q : ℕ) (l : List (List ℕ)) → length (words_on shift q l) ≡ length l
+unfolding words_by flat
+one-with-each shift q [] = refl
+one-with-each shift q (e ∷ l) = ap suc (one-with-each shift q l)
+
+pub votes-many : (top q : ℕ) (es hs : List (List ℕ)) → length (words_from (pair_word top) q es hs) ≡ met es hs
+unfolding words_from met sum
+votes-many top q es [] = refl
+votes-many top q es (h ∷ hs) =
+    let ih = votes-many top (suc q) es hs in
+    length-append (words_of (pair_word top) q es h) (words_from (pair_word top) (suc q) es hs) ∙ omega (arith, one-with-each (top - get_or h 1 0) q (found es h))
+
 -- ---- the postings under a key, from a to before e
 
 module _ (ps : List ℕ) (p key : ℕ) (fits : 3 * p ≤ length ps) (t : keys_ascend ps 3 p ≡ true) where
@@ -107,7 +101,7 @@ module _ (ps : List ℕ) (p key : ℕ) (fits : 3 * p ≤ length ps) (t : keys_as
   part-is = ap (λ (n : ℕ). entries 3 n (flat (under key_of key (entries 3 p ps)))) (sym (under-many ps 3 p key t (omega arith) fits)) ∙ part-entries ps 3 p key fits
 
   -- where there is one at most, its word is written in any case, and counted where it votes
-  module _ (v : Voters) (rs : List ℕ) (c : ℕ) (ec : c ≡ when (may_vote v rs (get_or ps (3 * a + 1) 0)) (e - a)) (few : e - a ≤ 1) where
+  module _ (v : ℕ) (rs : List ℕ) (c : ℕ) (ec : c ≡ when (may_vote v rs (get_or ps (3 * a + 1) 0)) (e - a)) (few : e - a ≤ 1) where
     pub first_counted : c ≡ length (under key_of key (voting v rs (entries 3 p ps)))
     first_counted = ec ∙ sym (few-votes v rs ps 3 p key (omega arith) (3 * a) (e - a) refl few) ∙ sym (votes-all v rs ps 3 p key (omega arith) t fits)
 
@@ -143,19 +137,70 @@ module _ (ps : List ℕ) (p key : ℕ) (fits : 3 * p ≤ length ps) (t : keys_as
             let m : at + c ≡ at = omega arith in
             rw (m, none_of (under key_of key (voting v rs (entries 3 p ps))) (omega (arith, first_counted)), es) (before (ltb (3 * a) (3 * p)) ∙ sym (append-nil (take at s)))
 
--- ---- each posting gives one vote
+-- ---- the part under a key, from word `start` to before word `end`
 
-pub one-with-each : (shift q : ℕ) (l : List (List ℕ)) → length (words_on shift q l) ≡ length l
-unfolding words_by flat
-one-with-each shift q [] = refl
-one-with-each shift q (e ∷ l) = ap suc (one-with-each shift q l)
+module _ (v : ℕ) (rs ps : List ℕ) (p key : ℕ) (fits : 3 * p ≤ length ps) (t : keys_ascend ps 3 p ≡ true) (start end : ℕ) (es : start ≡ 3 * first_at ps 3 p key) (ee : end ≡ 3 * first_at ps 3 p (key + 1)) where
+  between : (end - start) / 3 ≡ first_at ps 3 p (key + 1) - first_at ps 3 p key
+  between = omega (arith, es, ee)
 
-pub votes-many : (top q : ℕ) (es hs : List (List ℕ)) → length (words_from (pair_word top) q es hs) ≡ met es hs
-unfolding words_from met sum
-votes-many top q es [] = refl
-votes-many top q es (h ∷ hs) =
-    let ih = votes-many top (suc q) es hs in
-    length-append (words_of (pair_word top) q es h) (words_from (pair_word top) (suc q) es hs) ∙ omega (arith, one-with-each (top - get_or h 1 0) q (found es h))
+  starts-in : first_at ps 3 p key ≤ p
+  starts-in = (first-splits ps 3 p key t).within
+
+  pub key-forward : start ≤ end
+  key-forward = omega (arith, es, ee, first-le ps 3 p key t)
+
+  pub key-within : start ≤ 3 * p
+  key-within = omega (arith, es, starts-in)
+
+  -- what is handed on where there is one at most
+  module _ (part : List ℕ) (k : part ≡ take (3 * p - start) (drop start ps)) where
+    handed : part ≡ take (3 * p - 3 * first_at ps 3 p key) (drop (3 * first_at ps 3 p key) ps)
+    handed = k ∙ ap (λ (n : ℕ). take (3 * p - n) (drop n ps)) es
+
+    pub first-ready : Ids (entries 3 p ps) → 0 < length part → (2 < length part) × (get_or part 1 0 < 2 ^ 12)
+    first-ready ids = first-whole ps part p (first_at ps 3 p key) fits starts-in handed ids
+
+    module _ (few : (end - start) / 3 ≤ 1) (c : ℕ) (ec : c ≡ when (may_vote v rs (get_or ps (start + 1) 0)) ((end - start) / 3)) where
+      counted : c ≡ when (may_vote v rs (get_or ps (3 * first_at ps 3 p key + 1) 0)) (first_at ps 3 p (key + 1) - first_at ps 3 p key)
+      counted = ec ∙ ap₂ (λ (i n : ℕ). when (may_vote v rs (get_or ps (i + 1) 0)) n) es between
+
+      pub first-number : c ≡ length (under key_of key (voting v rs (entries 3 p ps)))
+      first-number = first_counted ps p key fits t v rs c counted (omega (arith, between))
+
+      pub first-put : (shift q : ℕ) (s s' : List ℤ) (at : ℕ) → at + length (under key_of key (voting v rs (entries 3 p ps))) ≤ length s
+          → s' ≡ cond (ltb 0 (length part)) (set s at (pos (packed (get_or part 1 0) (get_or part 2 0 + shift) q))) s
+          → take (at + c) s' ≡ take at s ++ words_on shift q (under key_of key (voting v rs (entries 3 p ps)))
+      first-put shift q s s' at room e =
+          put_first ps p key fits t v rs c counted (omega (arith, between)) shift q s s' at (omega (arith, first-number))
+          (e ∙ first-vote ps part p (first_at ps 3 p key) fits starts-in handed s at shift q)
+
+  pub first-rows : Rowed rs ps 3 p → (end - start) / 3 ≤ 1
+      → (start < 3 * p → (start + 1 < length ps) × HasRow rs (get_or ps (start + 1) 0)) × (3 * p ≤ start → (end - start) / 3 ≡ 0) × ((end - start) / 3 ≤ 1)
+  first-rows R few = (
+    λ lt. rowed-word rs ps 3 p R fits start (first_at ps 3 p key) es (omega (arith, es)),
+    λ le. omega (arith, es, between, (first-splits ps 3 p (key + 1) t).within),
+    few,
+  )
+
+  -- what is handed on where there are more
+  module _ (part : List ℕ) (k : part ≡ flat (under key_of key (entries 3 p ps))) where
+    held : entries 3 (length part / 3) part ≡ under key_of key (entries 3 p ps)
+    held = rw (k, part-many 3 ps p key (omega arith) fits) (part-entries ps 3 p key fits)
+
+    votes : voting v rs (entries 3 (length part / 3) part) ≡ under key_of key (voting v rs (entries 3 p ps))
+    votes = ap (voting v rs) held ∙ sym (under-voting v rs key (entries 3 p ps))
+
+    pub part-number : (shift q : ℕ) → length (words_on shift q (voting v rs (entries 3 (length part / 3) part))) ≡ length (under key_of key (voting v rs (entries 3 p ps)))
+    part-number shift q = ap (λ (l : List (List ℕ)). length (words_on shift q l)) votes ∙ one-with-each shift q (under key_of key (voting v rs (entries 3 p ps)))
+
+    pub part-words : (shift q : ℕ) → words_on shift q (voting v rs (entries 3 (length part / 3) part)) ≡ words_on shift q (under key_of key (voting v rs (entries 3 p ps)))
+    part-words shift q = ap (λ (l : List (List ℕ)). words_on shift q l) votes
+
+    pub part-rows : Rowed rs ps 3 p → Rowed rs part 3 (length part / 3)
+    part-rows R = rowed-part rs ps 3 p R part (length part / 3) key held
+
+    pub part-bits : Ids (entries 3 p ps) → Ids (entries 3 (length part / 3) part)
+    part-bits ids = rw held (part-ids 3 ps p key ids)
 
 -- ---- those of hash i, written behind those before it
 
