@@ -11,7 +11,7 @@ use lib.Seq.{drop_at}
 use lib.Dec.{eqb}
 use borrow.Author.Tests.{eqb-true, eqb-false, eq-eqb, ne_eqb}
 use Rattle.lists.specs.Lists.{keep, some?, flat}
-use Rattle.lists.specs.Entries.{entries, Wide, padded}
+use Rattle.lists.specs.Entries.{Wide, padded}
 use Rattle.lists.proofs.Tests.{test}
 use Rattle.lists.proofs.Keep.{keep-map, keep-ext, length-keep, length-flat, all_keep}
 use Rattle.model.specs.Rows.{Row, no_rate}

@@ -10,48 +10,31 @@ ghost use Rattle.model.specs.Words.{head_width, row_width};
 ghost use Rattle.remove.specs.Answers.{count_answer, removal_answer};
 ghost use Rattle.remove.specs.Erasing.{vacated, others, others_left, Erasable};
 
-use rows::{AT_LIVE, NO_RATE, Row, row_word};
-use slices::{at, size};
-use soundness::refusal_of;
-
-#[derive(Clone, Copy)]
-pub enum LiveCount {
-    Refused(u32),
-    Count(u32),
-}
-
-#[derive(Clone, Copy)]
-pub enum Removal {
-    Refused(u32),
-    Removed(bool),
-}
+use refusals::Refusal;
+use rows::{AT_LIVE, NO_RATE, Row};
+use soundness::Store;
 
 // How many recordings are live.
-pub fn live_count(refs: &[u32], posts: &[u32], stops: &[u32], w: usize) -> LiveCount
-    requires { (3 ≤ w) × (w ≤ 5) }
-    ensures { (count_answer result, words refs.now posts.now stops.now)
-        ≡ run_count w (words refs.now posts.now stops.now) }
+pub fn live_count(store: Store) -> Result<u32, Refusal>
+    requires { store.width ≤ 5 }
+    ensures { (count_answer result, words store.entry.refs.now store.entry.posts.now store.entry.stops.now)
+        ≡ run_count store.entry.width (words store.entry.refs.now store.entry.posts.now store.entry.stops.now) }
 {
-    let r = refusal_of(refs, posts, stops, w);
-    if r != 0 {
-        return LiveCount::Refused(r);
-    }
-    LiveCount::Count(at(refs, 0) - at(refs, 1))
+    store.refusal()?;
+    Ok(store.refs[0] - store.refs[1])
 }
 
 // Whether id is live.
+#[tactic(auto, using(std::proofs::lemmas::Bool::Decides::nat_tests), unfolding(model::specs::Soundness::live_id))]
 pub fn is_live(refs: &[u32], id: u32) -> bool
     requires { (head_width ≤ length refs.now) × (head_width + row_width * get_or refs.now 0 0 ≤ length refs.now) }
     ensures { result ≡ live_id refs.now (get_or refs.now 0 0) id }
 {
-    let j = size(id);
-    if size(at(refs, 0)) <= j {
-        return false;
-    }
-    row_word(refs, j, AT_LIVE) == 1
+    id < refs[0] && rows::row_word(refs, id as usize, AT_LIVE) == 1
 }
 
 // Row id becomes dead and id the last of the vacant entries; `held` postings are left.
+#[tactic(auto, unfolding(crate::specs::Erasing::vacated))]
 fn vacate(refs: &mut [u32], id: u32, held: u32)
     requires { (head_width + row_width * (id + 1) ≤ length refs.old) × (head_width + row_width * (get_or refs.old 1 0 + 1) ≤ length refs.old) × (get_or refs.old 1 0 ≤ 4096) }
     ensures { refs.new ≡ vacated refs.old id held }
@@ -64,8 +47,8 @@ fn vacate(refs: &mut [u32], id: u32, held: u32)
         rmax: 0,
         set: 0,
     };
-    rows::put_row(refs, size(id), row, 0);
-    rows::put_entry(refs, size(v), id);
+    rows::put_row(refs, id as usize, row, 0);
+    rows::put_entry(refs, v as usize, id);
     rows::put_header(refs, n, v + 1, held, k);
 }
 
@@ -76,26 +59,35 @@ pub fn erase(refs: &mut [u32], posts: &mut [u32], w: usize, id: u32, list: &[u32
     ensures refs_after { refs.new ≡ vacated refs.old id (length (others w refs.old posts.old id)) }
     ensures posts_after { posts.new ≡ others_left w refs.old posts.old id }
 {
-    let p = size(refs[2]);
+    let p = refs[2] as usize;
     let ids = [id];
     let q = postings::retain(posts, w, p, 1, &ids, 1, list, c);
     vacate(refs, id, q as u32);
 }
 
-// A recording goes.
-pub fn remove(refs: &mut [u32], posts: &mut [u32], stops: &[u32], w: usize, id: u32) -> Removal
+// A recording goes, if it is live.
+pub fn remove(
+    refs: &mut [u32],
+    posts: &mut [u32],
+    stops: &[u32],
+    w: usize,
+    id: u32,
+) -> Result<bool, Refusal>
     requires { (3 ≤ w) × (w ≤ 5) }
     ensures { (removal_answer result, words refs.new posts.new stops.now)
         ≡ run_remove w (words refs.old posts.old stops.now) id }
 {
-    let r = refusal_of(refs, posts, stops, w);
-    if r != 0 {
-        return Removal::Refused(r);
-    }
+    let store = Store {
+        refs,
+        posts,
+        stops,
+        width: w,
+    };
+    store.refusal()?;
     if !is_live(refs, id) {
-        return Removal::Removed(false);
+        return Ok(false);
     }
     // no place is listed
     erase(refs, posts, w, id, stops, 0);
-    Removal::Removed(true)
+    Ok(true)
 }
