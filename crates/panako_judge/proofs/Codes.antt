@@ -7,7 +7,8 @@ use lib.IntN.{pos, ◌-ℤ◌}
 use Rattle.bins.specs.Votes.{above}
 use Rattle.bins.specs.Codes.{code_in}
 use Rattle.panako_vote.specs.Votes.{InRange}
-use Rattle.panako_vote.specs.Words.{Vote, code_of, vote_of_code, lowest, word_of}
+use Rattle.panako_vote.specs.declared.Vote.{Vote}
+use Rattle.panako_vote.specs.Words.{code_of, vote_of_code, lowest, word_of}
 use Rattle.panako_vote.proofs.Words.{less-below, less-from, code-small, vote-back}
 use Rattle.panako_judge.specs.Candidates.{panako_form, recording_of, vote_in}
 

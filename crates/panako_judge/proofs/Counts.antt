@@ -6,7 +6,7 @@ use Prim.Native.Nat.{ℕ}
 use lib.ListN.{length}
 use Rattle.maps.specs.Lists.{count_if}
 use Rattle.bins.proofs.Occupied.{length-counts}
-use Rattle.panako_vote.specs.Words.{Vote}
+use Rattle.panako_vote.specs.declared.Vote.{Vote}
 use Rattle.panako_judge.specs.Judge.{judge_by}
 use Rattle.panako_judge.specs.declared.PanakoQuery.{PanakoQuery}
 use Rattle.panako_judge.proofs.Occupied.{occupied-same, bins-same}

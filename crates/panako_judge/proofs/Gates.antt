@@ -14,10 +14,12 @@ use Rattle.matching.specs.Scores.{score_of}
 use Rattle.hough.specs.Hough.{scale, hough_peak, peak_offset, prominence}
 use Rattle.hough.specs.declared.Peak.{Peak}
 use Rattle.gates.specs.Gates.{gates, result_at}
+use Rattle.gates.specs.declared.AtPeak.{AtPeak}
 use Rattle.query_rank.specs.Verdicts.{verdict_of}
-use Rattle.query_rank.specs.declared.Verdict.{Verdict}
+use Rattle.std.specs.Prelude.{Option}
+use Rattle.matching.specs.declared.MatchResult.{MatchResult}
 use Rattle.gates.proofs.Passing.{Judged}
-use Rattle.panako_vote.specs.Words.{Vote}
+use Rattle.panako_vote.specs.declared.Vote.{Vote}
 use Rattle.panako_judge.specs.Judge.{hough_bins, bin_count, Seen, seen_of, thresholds_of, at_peak, time_scale_of, result_of, judge_by}
 use Rattle.panako_judge.specs.declared.PanakoQuery.{PanakoQuery}
 
@@ -35,16 +37,16 @@ module _ (q : PanakoQuery) (l : List ℤ) (n : ℕ) where
     unfolding seen_of
     score-found x e = rw (pe, te) at e
 
-    pub result-found : (x y fps : Float) → record { votes = p.votes; prominence = x; score = y } ≡ at_peak (seen_of q l n)
-        → result_at (record { votes = p.votes; prominence = x; score = y }) (peak_offset l n q.cfg.offset_tolerance_frames p.at) fps (time_scale_of q.cfg (scale l p.at)) ≡ result_of q fps (seen_of q l n)
+    pub result-found : (z : AtPeak) (fps : Float) → z ≡ at_peak (seen_of q l n)
+        → result_at z (peak_offset l n q.cfg.offset_tolerance_frames p.at) fps (time_scale_of q.cfg (scale l p.at)) ≡ result_of q fps (seen_of q l n)
     unfolding seen_of
-    result-found x y fps e = rw (e, pe, te) refl
+    result-found z fps e = rw (e, pe, te) refl
 
 module _ (q : PanakoQuery) (rate : ℕ) (vs : List Vote) where
   abbrev pub seen : Seen
   seen = seen_of q (hough_bins vs) (bin_count vs)
 
-  pub judged-by : (fps : Float) → fps ≡ of_bits binary32 rate → (v : Verdict)
+  pub judged-by : (fps : Float) → fps ≡ of_bits binary32 rate → (v : Option MatchResult)
       → Judged (thresholds_of q) fps (length vs) (at_peak seen) (result_of q fps seen) v → v ≡ verdict_of (judge_by q rate vs)
   unfolding judge_by
   judged-by fps e v w = rw e at w

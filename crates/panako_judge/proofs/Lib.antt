@@ -8,3 +8,4 @@ pub mod Binned
 pub mod Words
 pub mod Lent
 pub mod Gates
+pub mod Entry

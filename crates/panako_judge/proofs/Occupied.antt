@@ -17,7 +17,8 @@ use Rattle.signed.proofs.Order.{never}
 use Rattle.maps.specs.Lists.{count_if}
 use Rattle.bins.specs.Codes.{occupied, how_often, bin_words, bins_of}
 use Rattle.bins.proofs.Binned.{count_map}
-use Rattle.panako_vote.specs.Words.{Vote, middle, vote_of_code}
+use Rattle.panako_vote.specs.declared.Vote.{Vote}
+use Rattle.panako_vote.specs.Words.{middle, vote_of_code}
 use Rattle.panako_judge.specs.Judge.{same_bin, before, with_bin, occupied_bins, counted_bin, hough_bins, bin_count}
 use Rattle.panako_judge.specs.Candidates.{panako_form}
 use Rattle.panako_judge.proofs.Order.{Before, same-is, is_same, before-irrefl, before-trans, before-total, before-codes, same_codes}

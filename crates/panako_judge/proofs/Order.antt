@@ -13,7 +13,8 @@ use Rattle.maps.proofs.Tests.{is_true}
 use Rattle.signed.proofs.Order.{le_z-lt_z, never}
 use Rattle.consolidate.proofs.Spans.{le-shift}
 use Rattle.hough.specs.Hough.{gap}
-use Rattle.panako_vote.specs.Words.{Vote, middle, code_of, vote_of_code}
+use Rattle.panako_vote.specs.declared.Vote.{Vote}
+use Rattle.panako_vote.specs.Words.{middle, code_of, vote_of_code}
 use Rattle.panako_vote.proofs.Words.{code-back}
 use Rattle.panako_judge.specs.Judge.{same_bin, before}
 

@@ -9,11 +9,11 @@ use Rattle.model.specs.Fingerprints.{Hash}
 use Rattle.model.specs.Rows.{anchor}
 use Rattle.panako_vote.specs.Settings.{within_limits, Accepted}
 use Rattle.panako_vote.specs.Votes.{pair_vote, InRange, Bounded}
-use Rattle.panako_vote.specs.declared.Vote as of_pair
-use Rattle.panako_vote.specs.declared.Vote.TheVariants.{Nothing, At}
+use Rattle.std.specs.Prelude.{Option, Some, None}
 use Rattle.panako_vote.proofs.Limits.{accepted}
 use Rattle.panako_vote.proofs.Bounds.{pair-bounded}
-use Rattle.panako_vote.specs.Words.{Vote, as_list}
+use Rattle.panako_vote.specs.declared.Vote.{Vote}
+use Rattle.panako_vote.specs.Words.{as_list}
 use Rattle.panako_judge.specs.Scheme.{Ask, settings, beyond, last, votes_of}
 
 -- what packing asks of a vote
@@ -28,9 +28,9 @@ pub within : (a : Ask) → beyond a ≡ false → Accepted (settings a)
 unfolding beyond
 within a e = accepted a.cfg (test (within_limits (settings a)) (λ t. t) (λ f. let z = rw f at e in let y : ◌≡◌ {A = ℕ} 0 1 = cc in absurd (omega arith)))
 
-packed-list : (most : ℕ) → most ≤ 4096 → (v : of_pair.Vote) → Bounded (most - 1) v → 0 < most → All Packable (as_list v)
-packed-list most few Nothing b some = tt
-packed-list most few (At bin offset) b some = ((omega (arith, b.0), b.1), tt)
+packed-list : (most : ℕ) → most ≤ 4096 → (v : Option Vote) → Bounded (most - 1) v → 0 < most → All Packable (as_list v)
+packed-list most few None b some = tt
+packed-list most few (Some v) b some = ((omega (arith, b.0), b.1), tt)
 
 -- every vote of accepted settings is packable
 pub votes-packable : (a : Ask) → beyond a ≡ false → (h g : Hash) → Timed h → Timed g → All Packable (votes_of a h g)

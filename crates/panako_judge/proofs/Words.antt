@@ -18,7 +18,8 @@ use Rattle.bins.proofs.Occupied.{occupied-few, occupied-some, bins-length}
 use Rattle.bins.proofs.Binning.{codes-length, codes-each}
 use Rattle.few_bins.specs.Tally.{is_few, counted}
 use Rattle.hough.specs.Limits.{Bins}
-use Rattle.query_rank.specs.declared.Verdict.{Verdict}
+use Rattle.std.specs.Prelude.{Option}
+use Rattle.matching.specs.declared.MatchResult.{MatchResult}
 use Rattle.gates.proofs.Passing.{Weighed}
 use Rattle.panako_judge.specs.Judge as votes
 use Rattle.panako_vote.specs.Words.{middle, vote_of_code}
@@ -53,7 +54,7 @@ module _ (s : List ℤ) (a g : ℕ) (fits : a + g ≤ length s) where
     bins-some some = omega (arith, number, count-by-codes, occupied-some (codes_in panako_form s a g) (omega (arith, codes-length panako_form s a g fits)))
 
     -- what the gates say of them
-    pub weighed-bins : (q : PanakoQuery) (fps : Float) (v : Verdict)
+    pub weighed-bins : (q : PanakoQuery) (fps : Float) (v : Option MatchResult)
         → Weighed (thresholds_of q) (at_peak (seen_of q l n)) (result_of q fps (seen_of q l n)) v
         → Weighed (thresholds_of q) (at_peak (seen_of q (votes.hough_bins (votes_in s a g)) (bin_count (votes_in s a g)))) (result_of q fps (seen_of q (votes.hough_bins (votes_in s a g)) (bin_count (votes_in s a g)))) v
     weighed-bins q fps v w = rw (words, number) at w

@@ -2,7 +2,8 @@
 use Rattle.std.specs.Prelude.{◌≡◌, true, List, map, ℕ, ◌+◌, ◌*◌, ◌≤◌, ◌<◌, ℤ, length, take, drop}
 use Rattle.bins.specs.Codes.{code_in, id_in, Group}
 use Rattle.bins.specs.declared.Form.{Form}
-use Rattle.panako_vote.specs.Words.{Vote, vote_of_code, lowest}
+use Rattle.panako_vote.specs.declared.Vote.{Vote}
+use Rattle.panako_vote.specs.Words.{vote_of_code, lowest}
 use Rattle.panako_judge.specs.Judge.{hough_bins, bin_count}
 use Rattle.panako_judge.specs.declared.PanakoQuery.{PanakoQuery}
 

@@ -22,7 +22,7 @@ use Rattle.panako_vote.specs.Grids.{bin_at, grid_of}
 use Rattle.panako_vote.specs.Votes.{vote_at_scale, vote_on}
 use Rattle.model.specs.Fingerprints.{Hash}
 use Rattle.gates.specs.Gates.{peak_gates, gates, result_at}
-use Rattle.panako_vote.specs.Words.{Vote}
+use Rattle.panako_vote.specs.declared.Vote.{Vote}
 use Rattle.panako_judge.specs.Judge.{with_bin, occupied_bins, hough_bins, bin_count, seen_of, time_scale_of, judge_by}
 use Rattle.panako_judge.specs.Scheme.{Ask, beyond, votes_of, judge}
 

@@ -11,7 +11,7 @@ use Rattle.matching.specs.Scales.{bin_centre, time_scale}
 use Rattle.matching.specs.Scores.{score_of}
 use Rattle.matching.specs.declared.MatchResult.{MatchResult}
 use Rattle.panako_vote.specs.Grids.{per}
-use Rattle.panako_vote.specs.Words.{Vote}
+use Rattle.panako_vote.specs.declared.Vote.{Vote}
 use Rattle.panako_vote.specs.declared.PanakoMatchConfig.{PanakoMatchConfig}
 use Rattle.hough.specs.Hough.{scale, gap, hough_peak, peak_offset, prominence}
 use Rattle.hough.specs.declared.Peak.{Peak}

@@ -7,7 +7,8 @@ use Rattle.model.specs.Rows.{Row, anchor}
 use Rattle.model.specs.Query.{Scheme, Query}
 use Rattle.panako_vote.specs.Settings.{normalised, within_limits}
 use Rattle.panako_vote.specs.Votes.{pair_vote}
-use Rattle.panako_vote.specs.Words.{Vote, as_list}
+use Rattle.panako_vote.specs.declared.Vote.{Vote}
+use Rattle.panako_vote.specs.Words.{as_list}
 use Rattle.panako_vote.specs.declared.PanakoMatchConfig.{PanakoMatchConfig}
 use Rattle.panako_judge.specs.Judge.{judge_by}
 use Rattle.panako_judge.specs.declared.PanakoQuery.{PanakoQuery}

@@ -2,10 +2,10 @@
 // `PanakoIndex::query` of the reference.
 #![tactic(auto)]
 
-ghost use Rattle.std.specs.Prelude.{◌≡◌, ◌+◌, ◌*◌, ◌≤◌, ◌<◌, length, take};
+ghost use Rattle.std.specs.Prelude.{◌≡◌, ◌+◌, ◌*◌, ◌≤◌, ◌<◌, ◌^◌, length, take};
 ghost use Rattle.maps.specs.Words.{SameOutside};
 ghost use Rattle.query_rank.specs.Verdicts.{verdict_of};
-ghost use Rattle.gates.specs.Gates.{admits, peak_gates, result_at, passing};
+ghost use Rattle.gates.specs.Gates.{peak_gates, result_at, passing};
 ghost use Rattle.few_bins.specs.Tally.{counted};
 ghost use Rattle.hough.specs.Hough.{scale, peak_offset};
 ghost use Rattle.hough.specs.Limits.{Bins, Roomy, Summed};
@@ -13,10 +13,9 @@ ghost use Rattle.panako_judge.specs.Judge.{bin_count, seen_of, thresholds_of, at
 ghost use Rattle.panako_judge.specs.Candidates.{votes_in, Candidate, Binned};
 
 use bins::Form;
-use hough::Peak;
+use gates::{AtPeak, Thresholds};
 use matching::MatchResult;
 use panako_vote::{LOWEST, MIDDLE, PanakoMatchConfig};
-use query_rank::Verdict;
 
 // How the votes stand in words.
 const FORM: Form = Form {
@@ -34,9 +33,31 @@ pub struct PanakoQuery {
     pub q_len: usize,
 }
 
+impl PanakoQuery {
+    // What it asks at the gates.
+    fn thresholds(self) -> Thresholds
+        ensures { result ≡ thresholds_of self }
+    {
+        Thresholds {
+            rate: self.frames_per_sec,
+            min_votes: self.cfg.min_votes,
+            min_score: self.cfg.min_score,
+            min_prominence: self.cfg.min_prominence,
+        }
+    }
+
+    // How far from a centre a vote may lie.
+    fn tolerance(self) -> u64
+        ensures { result ≡ self.cfg.offset_tolerance_frames }
+    {
+        u64::from(self.cfg.offset_tolerance_frames)
+    }
+}
+
 // ---- the judge
 
 // The time scale of a scale bin.
+#[tactic(auto, unfolding(crate::specs::Judge::time_scale_of, panako_vote::specs::Grids::grid_of))]
 fn time_scale_of(cfg: PanakoMatchConfig, bin: u64) -> f32
     requires { bin ≤ 4095 }
     ensures { result ≡ time_scale_of cfg bin }
@@ -45,82 +66,62 @@ fn time_scale_of(cfg: PanakoMatchConfig, bin: u64) -> f32
     matching::time_scale(matching::scale_centre(grid.scale_min, grid.scale_per_bin, bin as u32))
 }
 
-// The result of n bins with the peak p.
-fn result(
-    s: &[i64],
-    n: usize,
-    q: PanakoQuery,
-    p: Peak,
-    score: f32,
-    prominence: f32,
-    fps: f32,
-) -> MatchResult
-    requires { Bins s.now n × (q.cfg.offset_tolerance_frames ≤ 65535) × (p.at < n) × (p.votes ≤ 1000000) }
-    ensures { result ≡ result_at (record { votes = p.votes; prominence = prominence; score = score })
-        (peak_offset s.now n q.cfg.offset_tolerance_frames p.at) fps (time_scale_of q.cfg (scale s.now p.at)) }
+// The result of n bins whose peak is at bin i.
+fn result(s: &[i64], n: usize, i: usize, q: PanakoQuery, p: AtPeak, fps: f32) -> MatchResult
+    requires { Bins s.now n × (q.cfg.offset_tolerance_frames ≤ 65535) × (i < n) × (p.votes < 2 ^ 32) }
+    ensures { result ≡ result_at p (peak_offset s.now n q.cfg.offset_tolerance_frames i) fps (time_scale_of q.cfg (scale s.now i)) }
 {
-    let cfg = q.cfg;
-    let frames = hough::panako_peak_offset(s, n, slices::wide(cfg.offset_tolerance_frames), p.at);
-    let scale = time_scale_of(cfg, hough::scale_at(s, n, p.at));
-    gates::result(score, p.votes, prominence, frames, fps, scale)
+    let frames = hough::panako_peak_offset(s, n, q.tolerance(), i);
+    let scale = time_scale_of(q.cfg, hough::scale_at(s, n, i));
+    gates::result(p, frames, fps, scale)
 }
 
 // Steps 3 and 4, of n bins with their sums behind them.
-fn weigh(s: &[i64], n: usize, q: PanakoQuery, fps: f32) -> Verdict
+fn weigh(s: &[i64], n: usize, q: PanakoQuery, fps: f32) -> Option<MatchResult>
     requires { Roomy s.now n × (0 < n) × (q.cfg.offset_tolerance_frames ≤ 65535) × Summed s.now n q.cfg.offset_tolerance_frames }
     ensures { result ≡ verdict_of (passing (peak_gates (thresholds_of q) (at_peak (seen_of q (take (3 * n) s.now) n))) (result_of q fps (seen_of q (take (3 * n) s.now) n))) }
 {
-    let cfg = q.cfg;
-    let tol = slices::wide(cfg.offset_tolerance_frames);
-    let p = hough::panako_hough_peak(s, n, tol);
-    let votes = p.votes;
-    if votes < slices::wide(cfg.min_votes) {
-        return Verdict::Barred;
-    }
-    let prominence = hough::panako_prominence(s, n, tol, p);
-    if matching::below_threshold(prominence, cfg.min_prominence) {
-        return Verdict::Barred;
-    }
-    let score = matching::score(votes, q.q_len as u64);
-    if matching::below_threshold(score, cfg.min_score) {
-        return Verdict::Barred;
-    }
-    let e = 3 * n;
-    Verdict::Passed(result(&s[..e], n, q, p, score, prominence, fps))
+    let tol = q.tolerance();
+    let peak = hough::panako_hough_peak(s, n, tol);
+    let bins = &s[..3 * n];
+    gates::weigh(
+        q.thresholds(),
+        peak.votes,
+        move || hough::panako_prominence(s, n, tol, peak),
+        move || matching::score(peak.votes, q.q_len as u64),
+        move |p| result(bins, n, peak.at, q, p, fps),
+    )
 }
 
 // The same of n bins, with the words behind them for their sums.
-fn sum_and_weigh(s: &mut [i64], n: usize, q: PanakoQuery, fps: f32) -> Verdict
+fn sum_and_weigh(s: &mut [i64], n: usize, q: PanakoQuery, fps: f32) -> Option<MatchResult>
     requires { Roomy s.old n × (0 < n) × (q.cfg.offset_tolerance_frames ≤ 65535) }
     ensures { result ≡ verdict_of (passing (peak_gates (thresholds_of q) (at_peak (seen_of q (take (3 * n) s.old) n))) (result_of q fps (seen_of q (take (3 * n) s.old) n))) }
 {
-    let cfg = q.cfg;
-    hough::put_sums(s, n, slices::wide(cfg.offset_tolerance_frames));
+    hough::put_sums(s, n, q.tolerance());
     weigh(s, n, q, fps)
-}
-
-// Steps 1 and 2, of a candidate with g votes whose row has the rate fps.
-fn admitted(q: PanakoQuery, fps: f32, g: usize) -> bool
-    ensures { result ≡ admits q.frames_per_sec fps q.cfg.min_votes g }
-{
-    let cfg = q.cfg;
-    gates::admitted(q.frames_per_sec, fps, cfg.min_votes, g)
 }
 
 // A candidate: the g votes from word a on, in order, and its row's rate. Its bins and their sums are written from word
 // `at` on.
-pub fn judge(s: &mut [i64], a: usize, g: usize, at: usize, q: PanakoQuery, rate: u32) -> Verdict
+pub fn judge(
+    s: &mut [i64],
+    a: usize,
+    g: usize,
+    at: usize,
+    q: PanakoQuery,
+    rate: u32,
+) -> Option<MatchResult>
     requires { Candidate s.old a g at q }
     ensures { (result ≡ verdict_of (judge_by q rate (votes_in s.old a g)))
         × SameOutside s.old s.new at (at + 4 * g) }
 {
     let fps = floats::f32_from_bits(rate);
-    if !admitted(q, fps, g) {
-        return Verdict::Barred;
+    if !gates::admitted(q.thresholds(), fps, g) {
+        return None;
     }
     let n = bins::count_sorted(s, a, g, at, FORM, MIDDLE as u64);
-    let e = at + 4 * n;
-    sum_and_weigh(&mut s[at..e], n, q, fps)
+    sum_and_weigh(&mut s[at..at + 4 * n], n, q, fps)
 }
 
 // ---- a candidate with few bins
@@ -144,14 +145,13 @@ pub fn judge_binned(
     n: usize,
     q: PanakoQuery,
     rate: u32,
-) -> Verdict
+) -> Option<MatchResult>
     requires { Binned s.old g at n × (0 < g) × (g ≤ 1000000) × (q.cfg.offset_tolerance_frames ≤ 65535) }
     ensures { result ≡ verdict_of (judge_by q rate (votes_in s.old 0 g)) }
 {
     let fps = floats::f32_from_bits(rate);
-    if !admitted(q, fps, g) {
-        return Verdict::Barred;
+    if !gates::admitted(q.thresholds(), fps, g) {
+        return None;
     }
-    let e = at + 4 * n;
-    sum_and_weigh(&mut s[at..e], n, q, fps)
+    sum_and_weigh(&mut s[at..at + 4 * n], n, q, fps)
 }

@@ -14,7 +14,8 @@ use Rattle.main_votes.specs.Main.{main_lead, others, main_of}
 use Rattle.query_laws.specs.Candidates.{row_at, judged_by}
 use Rattle.query_laws.proofs.Main.{best-main}
 use Rattle.panako_judge.specs.declared.PanakoQuery.{PanakoQuery}
-use Rattle.panako_vote.specs.Words.{Vote, lowest}
+use Rattle.panako_vote.specs.declared.Vote.{Vote}
+use Rattle.panako_vote.specs.Words.{lowest}
 use Rattle.panako_judge.proofs.Gates.{judged-few}
 use Rattle.panako_query.specs.Candidates.{reading, best_in, main_in}
 

@@ -18,7 +18,8 @@ use Rattle.panako_vote.specs.declared.Vote.TheVariants.{Nothing, At}
 use Rattle.panako_vote.proofs.Bounds.{vote-bounded}
 use Rattle.query_laws.proofs.Gathering.{Right}
 use Rattle.panako_judge.specs.declared.PanakoQuery.{PanakoQuery}
-use Rattle.panako_vote.specs.Words.{Vote, as_list, word_of}
+use Rattle.panako_vote.specs.declared.Vote.{Vote}
+use Rattle.panako_vote.specs.Words.{as_list, word_of}
 use Rattle.panako_judge.specs.Scheme.{Ask, settings, votes_of, panako}
 use Rattle.panako_judge.specs.Candidates.{recording_of, vote_in}
 use Rattle.panako_judge.proofs.Codes.{packed-recording, packed-vote}

@@ -11,7 +11,8 @@ use Rattle.query_search.specs.Voting.{voting}
 use Rattle.query_search.specs.declared.Voters.{Voters}
 use Rattle.query_laws.specs.Candidates as of-reading
 use Rattle.panako_judge.specs.declared.PanakoQuery.{PanakoQuery}
-use Rattle.panako_vote.specs.Words.{Vote, lowest}
+use Rattle.panako_vote.specs.declared.Vote.{Vote}
+use Rattle.panako_vote.specs.Words.{lowest}
 use Rattle.panako_judge.specs.Judge.{judge_by}
 use Rattle.panako_judge.specs.Candidates.{recording_of, vote_in, Binned}
 use Rattle.panako_votes.specs.Gathered.{words, Packable}

@@ -1,4 +1,5 @@
 -- The sweep over a candidate's bins finds the peak that is defined by counts of its votes. Assumes nothing.
+use Rattle.std.specs.Prelude.{Option}
 use mathlib.Core.Path.{◌≡◌, refl, sym, ap, ap₂, ◌∙◌, subst, fun_ext}
 use mathlib.Core.Bool.{Bool, true, false, ◌&&◌, and-false}
 use mathlib.Core.List.{List}
@@ -22,7 +23,6 @@ use Rattle.bins.proofs.Sparse.{Sparse, Off, one_of, when-none}
 use Rattle.consolidate.specs.Box.{within, window, mode_near, peak_over, box_peak}
 use Rattle.consolidate.specs.Limits.{Span}
 use Rattle.consolidate.specs.Windows.{withinℕ}
-use Rattle.consolidate.specs.declared.Mode.{Mode}
 use Rattle.consolidate.proofs.Facts.{midpoint, votes-total, votes-under, centre-is}
 use Rattle.signed.proofs.Order.{le_z-lt_z}
 use Rattle.consolidate.proofs.Spans.{le-shift, within-is}
@@ -122,7 +122,7 @@ module _ (n : Counts) (low : ℤ) (d q : ℕ → ℕ) (g : ℕ) (E : Tells n low
       unfolding box_peak peak_of
       peak-is tol high e some =
           rw (ne_eqb k 0 (λ z. omega arith), e, span-back low W)
-          (ap₂ (λ (w : ℕ → ℕ) (m : ℤ → ℤ → Mode). peak_over w m low (W + 1)) (fun_ext (λ x. windows-are tol (low +ℤ pos x))) (fun_ext (λ a. fun_ext (λ b. mode-is tol a b))))
+          (ap₂ (λ (w : ℕ → ℕ) (m : ℤ → ℤ → Option ℤ). peak_over w m low (W + 1)) (fun_ext (λ x. windows-are tol (low +ℤ pos x))) (fun_ext (λ a. fun_ext (λ b. mode-is tol a b))))
 
       -- the span is one that the sweep takes
       module _ (high : ℤ) (e : high ≡ low +ℤ pos W) where

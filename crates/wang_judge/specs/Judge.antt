@@ -1,5 +1,6 @@
 -- Wang's judge: steps 1 to 4 of document 01's "Each candidate", from a candidate's votes, its row and the query. All of it is said by
 -- counts of votes, so their order can't matter. Definitions only. Assumes nothing.
+use Rattle.std.specs.Prelude as code
 use Rattle.std.specs.Prelude.{Bool, true, ◌&&◌, ℕ, ◌+◌, ℤ, pos, neg_ℤ, ◌+ℤ◌, eqb, ltb, Float}
 use Rattle.std.proofs.Math.Option.{Option}
 use Rattle.std.specs.Float.{binary32}
@@ -10,7 +11,6 @@ use Rattle.matching.specs.Scores.{wang_prominence, score_of}
 use Rattle.matching.specs.declared.MatchResult.{MatchResult}
 use Rattle.consolidate.specs.Modes.{mode}
 use Rattle.consolidate.specs.Box.{within, peak_over}
-use Rattle.consolidate.specs.declared.Mode.{Mode}
 use Rattle.consolidate.specs.declared.Peak.{Peak}
 use Rattle.gates.specs.Gates.{gates, result_at, passing}
 use Rattle.gates.specs.declared.Thresholds.{Thresholds}
@@ -40,7 +40,7 @@ abbrev pub votes_at : Counts → ℤ → ℕ
 votes_at n d = n (near 0 d)
 
 -- the mode of those offsets that are "within tolerance of the run" from a to b
-unfoldable pub mode_within : Counts → ℕ → ℤ → ℕ → ℤ → ℤ → Mode
+unfoldable pub mode_within : Counts → ℕ → ℤ → ℕ → ℤ → ℤ → code.Option ℤ
 mode_within n tol low k a b = mode (λ x. when (within tol a b (low +ℤ pos x)) (votes_at n (low +ℤ pos x))) (λ x. low +ℤ pos x) k
 
 -- the peak of "the sum of counts within ± tolerance". A candidate has a vote: that there is no bin isn't met.
