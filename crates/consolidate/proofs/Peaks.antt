@@ -8,22 +8,25 @@ use native.Mathlib.Decide.{dec_lt}
 use lib.IntN.{ℤ, pos, nat_abs, ◌+ℤ◌}
 use lib.Dec.{leb}
 use borrow.Author.Tests.{le-leb, lt-leb, le-ltb, lt-ltb}
+use mir.Syntax.{w64}
+use mir.Val.{SFits}
+use Rattle.signed.proofs.Sizes.{fits-abs}
 use Rattle.maps.specs.Bins.{offset, votes, place}
 use Rattle.maps.specs.Sums.{sum_to, when}
-use Rattle.std.specs.Prelude.{Option, Some, None, unwrap_or}
-use Rattle.consolidate.specs.Modes.{nearest_mean, mode, mode_or}
-use Rattle.consolidate.specs.Box.{within, mode_near, peak_over, between, mode_between}
+use Rattle.std.specs.Prelude.{unwrap_or}
+use Rattle.consolidate.specs.Modes.{mode, mode_or}
+use Rattle.consolidate.specs.Box.{count_of, within, mode_near, peak_over, between, mode_between}
 use Rattle.consolidate.specs.Windows.{withinℕ, window_sum, Passed, Covers}
 use Rattle.consolidate.specs.Sweeping.{Placed, Next, Best, better_of, Swept}
 use Rattle.consolidate.specs.Limits.{Bins}
-use Rattle.consolidate.specs.Tallies.{tally_of}
+use Rattle.consolidate.specs.Tallies.{tally_of, no_tally, mode_of}
 use Rattle.consolidate.specs.declared.State.{State}
 use Rattle.consolidate.specs.declared.Tally.{Tally}
 use Rattle.consolidate.specs.declared.Window.{Window}
 use Rattle.maps.proofs.Sums.{sum-flat, sum-under}
 use Rattle.consolidate.proofs.Leading.{best_none, best-more, leads-greatest, leads-first, best-end}
 use Rattle.consolidate.proofs.Sliding.{window-le, covers-flat, slides-on, slides-none}
-use Rattle.consolidate.proofs.Tallies.{Tallied, tally-gap, tally-none, tally-more, tally-small, mode-none, mode-some, mode-cong}
+use Rattle.consolidate.proofs.Tallies.{Tallied, tally-gap, tally-none, tally-more, tally-small, mode-is, mode-cong, unwrap-is}
 use Rattle.consolidate.proofs.Spans.{near-is}
 
 -- ---- one step: the window w covers the centre at, and the next event is at `next`
@@ -73,9 +76,9 @@ on-between from to j a b = rw (le-leb from j a, lt-ltb j to b) refl
 abbrev pub TalliedBetween : List ℤ → ℕ → ℕ → ℕ → Tally → Type 0
 TalliedBetween l from to x t = Tallied (λ j. when (between from to j) (votes l j)) (offset l) x t
 
-pub between-none : (l : List ℤ) (from to : ℕ) → TalliedBetween l from to from (record { best = 0; count = 0; sum = pos 0 })
+pub between-none : (l : List ℤ) (from to : ℕ) → TalliedBetween l from to from no_tally
 between-none l from to =
-    tally-gap (λ j. when (between from to j) (votes l j)) (offset l) 0 from (record { best = 0; count = 0; sum = pos 0 }) (omega arith)
+    tally-gap (λ j. when (between from to j) (votes l j)) (offset l) 0 from no_tally (omega arith)
     (λ j u h. ap (λ (b : Bool). when b (votes l j)) (off-before from to j h)) (tally-none (λ j. when (between from to j) (votes l j)) (offset l))
 
 pub between-more : (l : List ℤ) (from to x : ℕ) (t : Tally) → from ≤ x → x < to → TalliedBetween l from to x t
@@ -89,12 +92,15 @@ between-all : (l : List ℤ) (from to x n : ℕ) (t : Tally) → to ≤ x → x 
 between-all l from to x n t g h T =
     tally-gap (λ j. when (between from to j) (votes l j)) (offset l) x n t h (λ j a b. ap (λ (k : Bool). when k (votes l j)) (off-after from to j (omega arith))) T
 
-pub between-mode_none : (l : List ℤ) (from to x n : ℕ) (t : Tally) → to ≤ x → x ≤ n → TalliedBetween l from to x t → t.best ≡ 0 → None ≡ mode_between l n from to
-between-mode_none l from to x n t g h T e = mode-none (λ j. when (between from to j) (votes l j)) (offset l) n t (between-all l from to x n t g h T) e
+pub between-mode : (l : List ℤ) (from to x n : ℕ) (t : Tally) → to ≤ x → x ≤ n → TalliedBetween l from to x t → mode_of t ≡ mode_between l n from to
+between-mode l from to x n t g h T = mode-is (λ j. when (between from to j) (votes l j)) (offset l) n t (between-all l from to x n t g h T)
 
-pub between-mode_some : (l : List ℤ) (from to x n : ℕ) (t : Tally) → to ≤ x → x ≤ n → TalliedBetween l from to x t → (t.best ≡ 0 → ⊥)
-    → Some (nearest_mean t.sum t.count) ≡ mode_between l n from to
-between-mode_some l from to x n t g h T e = mode-some (λ j. when (between from to j) (votes l j)) (offset l) n t (between-all l from to x n t g h T) e
+-- the words of a bin
+pub offset-fits : (l : List ℤ) (n i : ℕ) → Bins l n → i < n → SFits w64 (offset l i)
+offset-fits l n i b h = fits-abs (offset l i) (omega (arith, b.close i h))
+
+pub count-fits : (l : List ℤ) (n i : ℕ) → Bins l n → i < n → SFits w64 (count_of l i)
+count-fits l n i b h = fits-abs (count_of l i) (omega (arith, b.small i h))
 
 -- a tally is small
 pub between_small : (l : List ℤ) (n from to x : ℕ) (t : Tally) → Bins l n → x ≤ n → TalliedBetween l from to x t
@@ -126,10 +132,6 @@ module _ {d v : ℕ → ℕ} {n tol width : ℕ} {st : State} (S : Swept d v n t
   -- the best run is not empty, and lies in the span
   pub swept-run : 0 < width → (st.run.start < st.run.end) × (st.run.end ≤ width)
   swept-run h = (swept-best.some h, swept-best.done)
-
-unwrap-is : (m : Option ℤ) (other : ℤ) → unwrap_or m other ≡ mode_or other m
-unwrap-is None other = refl
-unwrap-is (Some d) other = refl
 
 pub answer : (l : List ℤ) (low : ℤ) (n tol width : ℕ) (st : State) (a asum e esum : ℕ) → Placed l low n → 0 < width
     → Swept (place l low) (votes l) n tol width st → st.at ≡ width

@@ -3,14 +3,14 @@ use Prim.Native.Nat.{ℕ, ◌+◌, ◌*◌, ◌≤◌, ◌<◌}
 use mathlib.Core.Path.{◌≡◌, refl, sym, ap, ap₂, ◌∙◌, subst}
 use mathlib.Core.Bool.{Bool, true, false, cond, ◌&&◌, and-false}
 use native.Mathlib.Omega.{arith}
-use lib.IntN.{ℤ, pos, nat_abs, ◌+ℤ◌, +ℤ_idl, +ℤ_idr}
+use lib.IntN.{ℤ, nat_abs, ◌+ℤ◌, +ℤ_idl, +ℤ_idr}
 use lib.Dec.{ltb, eqb}
 use borrow.Author.Tests.{ltb-true, ltb-false, lt-ltb, le-ltb, eqb-true, eqb-false, eq-eqb, ne_eqb}
 use Rattle.maps.specs.Sums.{sum_to, sum_to_ℤ, greatest, when, when_ℤ}
-use Rattle.consolidate.specs.Modes.{nearest_mean, mode}
-use Rattle.consolidate.specs.Tallies.{tally_of}
+use Rattle.consolidate.specs.Modes.{nearest_mean, mode, mode_or}
+use Rattle.consolidate.specs.Tallies.{tally_of, no_tally, mode_of}
 use Rattle.consolidate.specs.declared.Tally.{Tally}
-use Rattle.std.specs.Prelude.{Some, None}
+use Rattle.std.specs.Prelude.{Option, Some, None, unwrap_or}
 use Rattle.maps.proofs.Sums.{sum-next, sum-cong, sum_zeros, sum-none, sum-under, keep-le, sum_ℤ-next, sum_ℤ-cong, sum_ℤ-zeros, sum_ℤ-none, sum_ℤ-under, keep_ℤ-abs, greatest-next, greatest-cong, greatest-over, greatest-zeros}
 
 -- offset y has the count best, which is not 0
@@ -43,7 +43,7 @@ module _ (m : ℕ → ℕ) (z : ℕ → ℤ) where
         some = T.some;
       }
 
-  pub tally-none : Tallied m z 0 (record { best = 0; count = 0; sum = pos 0 })
+  pub tally-none : Tallied m z 0 no_tally
   unfolding sum_to sum_to_ℤ greatest
   tally-none = record { top = refl; ties = refl; total = refl; some = λ h. h }
 
@@ -118,15 +118,27 @@ module _ (m : ℕ → ℕ) (z : ℕ → ℤ) where
 -- ---- the mode, from the tally
 
 module _ (m : ℕ → ℕ) (z : ℕ → ℤ) (k : ℕ) (t : Tally) (T : Tallied m z k t) where
-  pub mode-none : t.best ≡ 0 → None ≡ mode m z k
+  mode-none : t.best ≡ 0 → None ≡ mode m z k
   unfolding mode
   mode-none e = rw (eq-eqb (greatest m k) 0 (sym T.top ∙ e)) refl
 
-  pub mode-some : (t.best ≡ 0 → ⊥) → Some (nearest_mean t.sum t.count) ≡ mode m z k
+  mode-some : (t.best ≡ 0 → ⊥) → Some (nearest_mean t.sum t.count) ≡ mode m z k
   unfolding mode
   mode-some h =
       let e = ties-are m z k t (omega arith) T in
       rw (ne_eqb (greatest m k) 0 (λ q. h (T.top ∙ q))) (sym (ap Some (ap₂ nearest_mean e.1 e.0)))
+
+  pub mode-is : mode_of t ≡ mode m z k
+  mode-is = go (eqb t.best 0) refl
+    where
+      go : (b : Bool) → eqb t.best 0 ≡ b → cond b None (Some (nearest_mean t.sum t.count)) ≡ mode m z k
+      go true q = mode-none (eqb-true t.best 0 q)
+      go false q = mode-some (eqb-false t.best 0 q)
+
+-- the mode, and another offset if there is none
+pub unwrap-is : (m : Option ℤ) (other : ℤ) → unwrap_or m other ≡ mode_or other m
+unwrap-is None other = refl
+unwrap-is (Some d) other = refl
 
 -- counts that agree have one mode
 pub mode-cong : (m m' : ℕ → ℕ) (z : ℕ → ℤ) (k : ℕ) → ((x : ℕ) → x < k → m x ≡ m' x) → mode m z k ≡ mode m' z k

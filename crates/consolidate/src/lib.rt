@@ -2,7 +2,7 @@
 // the box sweep over a Wang candidate's bins. A bin is two words of a slice: its offset, its count.
 #![tactic(auto)]
 
-ghost use Rattle.std.specs.Prelude.{◌≡◌, ◌||◌, ◌+◌, ◌-◌, ◌*◌, ◌<◌, ◌≤◌, ◌^◌, length, get_or, ℤ, pos, nat_abs, ◌+ℤ◌, leb};
+ghost use Rattle.std.specs.Prelude.{◌≡◌, ◌||◌, ℕ, ◌+◌, ◌-◌, ◌*◌, ◌<◌, ◌≤◌, ◌^◌, length, get_or, ℤ, pos, nat_abs, ◌+ℤ◌, leb};
 ghost use Rattle.std.specs.Int.Signed.{lt_z};
 ghost use Rattle.maps.specs.Bins.{offset, votes, place};
 ghost use Rattle.maps.specs.Sums.{sum_to};
@@ -11,11 +11,8 @@ ghost use Rattle.consolidate.specs.Modes.{ceil, nearest_mean};
 ghost use Rattle.consolidate.specs.Box.{mode_between, mode_near, peak_over, box_peak};
 ghost use Rattle.consolidate.specs.Limits.{Bins, bin_ok, bins_ok, Span, ends_ok, in_span, span_ok, checked_mode, checked_peak};
 ghost use Rattle.consolidate.specs.Windows.{window_sum, Passed, Slides, Covers};
-ghost use Rattle.consolidate.specs.Tallies.{tally_of};
+ghost use Rattle.consolidate.specs.Tallies.{tally_of, no_tally, mode_of};
 ghost use Rattle.consolidate.specs.Sweeping.{Placed, Next, better_of, Swept};
-
-use maps::smaller;
-use signed::{is_at_most, is_less, is_natural, unsigned_abs};
 
 // The greatest sum, the centre of its first run, the mode near that run, and the sum over all centres.
 #[derive(Clone, Copy)]
@@ -26,43 +23,7 @@ pub struct Peak {
     pub total: u64,
 }
 
-// ---- words
-
-// Word j of s.
-pub fn word_at(s: &[i64], j: usize) -> i64
-    requires { j < length s.now }
-    ensures { result ≡ get_or s.now j (pos 0) }
-{
-    s[j]
-}
-
-// a - b, and 0 where b is more.
-fn saturating_sub(a: u64, b: u64) -> u64
-    ensures { result ≡ a - b }
-{
-    if b <= a { a - b } else { 0 }
-}
-
 // ---- the mode
-
-// The offset of bin i.
-fn offset_at(s: &[i64], n: usize, i: usize) -> i64
-    requires { Bins s.now n × (i < n) }
-    ensures { result ≡ offset s.now i }
-{
-    let j = 2 * i;
-    s[j]
-}
-
-// The count of bin i.
-fn votes_at(s: &[i64], n: usize, i: usize) -> u64
-    requires { Bins s.now n × (i < n) }
-    ensures { result ≡ votes s.now i }
-{
-    let j = 2 * i + 1;
-    let v = s[j];
-    v as u64
-}
 
 // The greatest count so far, how many offsets have it, and the sum of these.
 #[derive(Clone, Copy)]
@@ -72,29 +33,53 @@ pub struct Tally {
     pub sum: i64,
 }
 
-// One offset more, with its count.
-pub fn tallied(t: Tally, v: u64, d: i64) -> Tally
-    requires { (t.count ≤ 2 ^ 32) × (nat_abs t.sum ≤ 2 ^ 60) × (nat_abs d ≤ 2 ^ 60) }
-    ensures { result ≡ tally_of t v d }
-{
-    if v == 0 {
-        return t;
+impl Tally {
+    // No offset yet.
+    pub fn none() -> Tally
+        ensures { result ≡ no_tally }
+    {
+        Tally {
+            best: 0,
+            count: 0,
+            sum: 0,
+        }
     }
-    if t.best < v {
-        return Tally {
-            best: v,
-            count: 1,
-            sum: d,
-        };
+
+    // One offset more, with its count.
+    pub fn with(self, v: u64, d: i64) -> Tally
+        requires { (self.count ≤ 2 ^ 32) × (nat_abs self.sum ≤ 2 ^ 60) × (nat_abs d ≤ 2 ^ 60) }
+        ensures { result ≡ tally_of self v d }
+    {
+        if v == 0 {
+            return self;
+        }
+        if self.best < v {
+            return Tally {
+                best: v,
+                count: 1,
+                sum: d,
+            };
+        }
+        if v == self.best {
+            return Tally {
+                count: self.count + 1,
+                sum: self.sum + d,
+                ..self
+            };
+        }
+        self
     }
-    if v == t.best {
-        return Tally {
-            best: t.best,
-            count: t.count + 1,
-            sum: t.sum + d,
-        };
+
+    // The mean of the offsets with the greatest count; none where no count is positive.
+    pub fn mode(self) -> Option<i64>
+        requires { (nat_abs self.sum ≤ 2 ^ 56) × (self.count ≤ 2 ^ 32) × (0 < self.best → 0 < self.count) }
+        ensures { result ≡ mode_of self }
+    {
+        if self.best == 0 {
+            return None;
+        }
+        Some(nearest_mean(self.sum, self.count))
     }
-    t
 }
 
 // num / den, rounded up.
@@ -112,7 +97,7 @@ fn ceil_div(num: i64, den: u64) -> i64
 }
 
 // The whole number nearest sum / m, halves to the lower.
-pub fn nearest_mean(sum: i64, m: u64) -> i64
+fn nearest_mean(sum: i64, m: u64) -> i64
     requires { (nat_abs sum ≤ 2 ^ 56) × (0 < m) × (m ≤ 2 ^ 32) }
     ensures { result ≡ nearest_mean sum m }
 {
@@ -126,54 +111,20 @@ pub fn mode_offset(s: &[i64], n: usize, from: usize, to: usize) -> Option<i64>
     requires { Bins s.now n × (from ≤ to) × (to ≤ n) }
     ensures { result ≡ mode_between s.now n from to }
 {
-    let mut t = Tally {
-        best: 0,
-        count: 0,
-        sum: 0,
-    };
+    let mut t = Tally::none();
     for i in from..to {
-        t = tallied(t, votes_at(s, n, i), offset_at(s, n, i));
+        t = t.with(s[2 * i + 1] as u64, s[2 * i]);
     }
-    if t.best == 0 {
-        return None;
-    }
-    Some(nearest_mean(t.sum, t.count))
+    t.mode()
 }
 
-// ---- the sweep; a place is an offset counted from the low end of the span
-
-// The place of bin i.
-fn place_at(s: &[i64], low: i64, n: usize, i: usize) -> u64
-    requires { Placed s.now low n × (i < n) }
-    ensures { (result ≡ place s.now low i) × (result ≤ 2 ^ 33) }
-{
-    let j = 2 * i;
-    let d = s[j] - low;
-    d as u64
-}
+// ---- a window that slides over bins
 
 // Where a walk over the bins stops, and the sum of the counts passed.
 #[derive(Clone, Copy)]
 pub struct Pass {
     pub at: usize,
     pub sum: u64,
-}
-
-// Passes the bins from `from` on whose places lie below `below`.
-fn advance(s: &[i64], low: i64, n: usize, from: usize, below: u64) -> Pass
-    requires { Placed s.now low n × (from ≤ n) }
-    ensures { Passed (place s.now low) (votes s.now) n from below result.at result.sum }
-{
-    let mut i = from;
-    let mut sum: u64 = 0;
-    while i < n {
-        if place_at(s, low, n, i) >= below {
-            return Pass { at: i, sum };
-        }
-        sum += votes_at(s, n, i);
-        i += 1;
-    }
-    Pass { at: i, sum }
 }
 
 // The bins from `leave` to before `enter`, and the sum of their counts.
@@ -184,42 +135,107 @@ pub struct Window {
     pub sum: u64,
 }
 
-// The window around the place x, from one around a place that is no higher.
-fn moved(s: &[i64], low: i64, n: usize, tol: u64, w: Window, x: u64) -> Window
-    requires { Placed s.now low n × (tol ≤ 65535) × (x ≤ 2 ^ 34) × Slides (place s.now low) (votes s.now) n tol x w }
-    ensures { Covers (place s.now low) (votes s.now) n tol x result × (result.sum ≤ 1000000) }
+// Bins that ascend by a key, with their counts.
+pub trait Ascending: Copy {
+    ghost keys: { Self → ℕ → ℕ };
+
+    ghost counts: { Self → ℕ → ℕ };
+
+    ghost number: { Self → ℕ };
+
+    fn len(self) -> usize
+        ensures { result ≡ number self };
+
+    fn key(self, i: usize) -> u64
+        requires { i < number self }
+        ensures { result ≡ keys self i };
+
+    fn votes(self, i: usize) -> u64
+        requires { i < number self }
+        ensures { result ≡ counts self i };
+
+    ghost ascend: { (b : Self) (i j : ℕ) → i < j → j < number b → keys b i < keys b j };
+
+    ghost few: { (b : Self) → sum_to (counts b) (number b) ≤ 1000000 };
+}
+
+// Passes the bins from `from` on whose keys lie below `below`.
+pub fn advance<B: Ascending>(b: B, from: usize, below: u64) -> Pass
+    requires { from ≤ B.number b }
+    ensures { Passed (B.keys b) (B.counts b) (B.number b) from below result.at result.sum }
 {
-    let enter = w.enter;
-    let leave = w.leave;
-    let entered = advance(s, low, n, enter, x + tol + 1);
-    let left = advance(s, low, n, leave, saturating_sub(x, tol));
-    let sum = w.sum + entered.sum - left.sum;
+    let n = b.len();
+    let mut sum: u64 = 0;
+    for i in from..n {
+        if b.key(i) >= below {
+            return Pass { at: i, sum };
+        }
+        sum += b.votes(i);
+    }
+    Pass { at: n, sum }
+}
+
+// The window around the key x, from one around a key that is no higher.
+pub fn moved<B: Ascending>(b: B, tol: u64, w: Window, x: u64) -> Window
+    requires { (tol ≤ 65535) × (x ≤ 2 ^ 55) × Slides (B.keys b) (B.counts b) (B.number b) tol x w }
+    ensures { Covers (B.keys b) (B.counts b) (B.number b) tol x result × (result.sum ≤ 1000000) }
+{
+    let entered = advance(b, w.enter, x + tol + 1);
+    let left = advance(b, w.leave, x.saturating_sub(tol));
     Window {
         enter: entered.at,
         leave: left.at,
-        sum,
+        sum: w.sum + entered.sum - left.sum,
     }
 }
 
-// The place of bin i, or `none` past the last.
-fn place_or(s: &[i64], low: i64, n: usize, i: usize, none: u64) -> u64
-    requires { Placed s.now low n × (none ≤ 2 ^ 34) }
-    ensures { ((i < n → result ≡ place s.now low i) × (n ≤ i → result ≡ none)) × (result ≤ 2 ^ 34) }
-{
-    if i < n {
-        return place_at(s, low, n, i);
-    }
-    none
+// ---- the sweep; a place is an offset counted from the low end of the span
+
+// The first n bins of s, and the low end.
+#[derive(Clone, Copy)]
+struct Places<'a> {
+    s: &'a [i64],
+    n: usize,
+    low: i64,
+    ghost placed: { Placed s.now low n },
 }
 
-// The next centre at which a bin enters the window or leaves it.
-fn next_event(s: &[i64], low: i64, n: usize, tol: u64, at: u64, width: u64, w: Window) -> u64
-    requires { Placed s.now low n × (tol ≤ 65535) × (at < width) × (width ≤ 2 ^ 33) × Covers (place s.now low) (votes s.now) n tol at w }
-    ensures { Next (place s.now low) n tol at width w.enter w.leave result }
-{
-    let enters = saturating_sub(place_or(s, low, n, w.enter, width + tol), tol);
-    let leaves = place_or(s, low, n, w.leave, width) + tol + 1;
-    smaller(smaller(enters, leaves), width)
+impl<'a> Ascending for Places<'a> {
+    ghost keys = { λ b. place b.s.now b.low };
+
+    ghost counts = { λ b. votes b.s.now };
+
+    ghost number = { λ b. b.n };
+
+    fn len(self) -> usize {
+        self.n
+    }
+
+    fn key(self, i: usize) -> u64 {
+        let d = self.s[2 * i] - self.low;
+        d as u64
+    }
+
+    fn votes(self, i: usize) -> u64 {
+        self.s[2 * i + 1] as u64
+    }
+
+    ghost ascend = { λ b. b.placed.ascend };
+
+    ghost few = { λ b. b.placed.sum };
+}
+
+impl<'a> Places<'a> {
+    // The place of bin i, or `none` past the last.
+    fn place_or(self, i: usize, none: u64) -> u64
+        requires { none ≤ 2 ^ 34 }
+        ensures { let b = self.entry in ((i < b.n → result ≡ place b.s.now b.low i) × (b.n ≤ i → result ≡ none)) × (result ≤ 2 ^ 34) }
+    {
+        if i < self.n {
+            return self.key(i);
+        }
+        none
+    }
 }
 
 // The first run of the greatest sum: from `start` to before `end`.
@@ -230,28 +246,23 @@ pub struct Run {
     pub end: u64,
 }
 
-// The best run, once the centres from `at` to before `next`, all with the sum v, are counted too.
-fn better(r: Run, at: u64, next: u64, v: u64) -> Run
-    ensures { result ≡ better_of r at next v }
-{
-    if r.peak < v {
-        return Run {
-            peak: v,
-            start: at,
-            end: next,
-        };
-    }
-    if v == r.peak {
-        if at == r.end {
+impl Run {
+    // The best run, once the centres from `at` to before `next`, all with the sum v, are counted too.
+    fn with(self, at: u64, next: u64, v: u64) -> Run
+        ensures { result ≡ better_of self at next v }
+    {
+        if self.peak < v {
             return Run {
-                peak: r.peak,
-                start: r.start,
+                peak: v,
+                start: at,
                 end: next,
             };
         }
-        return r;
+        if (v == self.peak) & (at == self.end) {
+            return Run { end: next, ..self };
+        }
+        self
     }
-    r
 }
 
 // The sweep before the centre `at`.
@@ -263,52 +274,90 @@ pub struct State {
     pub total: u64,
 }
 
-// One event: from the centre `at` to the next whose sum may differ.
-fn step(s: &[i64], low: i64, n: usize, tol: u64, width: u64, st: State) -> State
-    requires { Placed s.now low n × (tol ≤ 65535) × (width ≤ 2 ^ 33) × (st.at < width)
-        × Swept (place s.now low) (votes s.now) n tol width st }
-    ensures { Swept (place s.now low) (votes s.now) n tol width result × (st.at < result.at) }
-{
-    let at = st.at;
-    let old = st.window;
-    let run = st.run;
-    let window = moved(s, low, n, tol, old, at);
-    let next = next_event(s, low, n, tol, at, width, window);
-    let total = st.total + window.sum * (next - at);
-    let best = better(run, at, next, window.sum);
-    State {
-        at: next,
-        window,
-        run: best,
-        total,
-    }
+// The `width` centres from the low end on, with a tolerance.
+#[derive(Clone, Copy)]
+struct Sweep<'a> {
+    bins: Places<'a>,
+    tol: u64,
+    width: u64,
+    ghost within: { (tol ≤ 65535) × (width ≤ 2 ^ 33) },
 }
 
-// All centres below width.
-fn sweep(s: &[i64], low: i64, n: usize, tol: u64, width: u64) -> State
-    requires { Placed s.now low n × (tol ≤ 65535) × (width ≤ 2 ^ 33) }
-    ensures { Swept (place s.now low) (votes s.now) n tol width result × (result.at ≡ width) }
-{
-    let window = Window {
-        enter: 0,
-        leave: 0,
-        sum: 0,
-    };
-    let run = Run {
-        peak: 0,
-        start: 0,
-        end: 0,
-    };
-    let mut st = State {
-        at: 0,
-        window,
-        run,
-        total: 0,
-    };
-    while st.at < width {
-        st = step(s, low, n, tol, width, st);
+impl<'a> Sweep<'a> {
+    // The next centre at which a bin enters the window or leaves it.
+    fn next_event(self, at: u64, w: Window) -> u64
+        requires { let b = self.bins in (at < self.width) × Covers (place b.s.now b.low) (votes b.s.now) b.n self.tol at w }
+        ensures { let b = self.entry.bins in Next (place b.s.now b.low) b.n self.entry.tol at self.entry.width w.enter w.leave result }
+    {
+        let enters = self
+            .bins
+            .place_or(w.enter, self.width + self.tol)
+            .saturating_sub(self.tol);
+        let leaves = self.bins.place_or(w.leave, self.width) + self.tol + 1;
+        enters.min(leaves).min(self.width)
     }
-    st
+
+    // One event: from the centre `st.at` to the next whose sum may differ.
+    fn step(self, st: State) -> State
+        requires { let b = self.bins in (st.at < self.width) × Swept (place b.s.now b.low) (votes b.s.now) b.n self.tol self.width st }
+        ensures { let b = self.entry.bins in Swept (place b.s.now b.low) (votes b.s.now) b.n self.entry.tol self.entry.width result × (st.at < result.at) }
+    {
+        let window = moved(self.bins, self.tol, st.window, st.at);
+        let next = self.next_event(st.at, window);
+        State {
+            at: next,
+            window,
+            run: st.run.with(st.at, next, window.sum),
+            total: st.total + window.sum * (next - st.at),
+        }
+    }
+
+    // All centres.
+    fn sweep(self) -> State
+        ensures { let b = self.entry.bins in Swept (place b.s.now b.low) (votes b.s.now) b.n self.entry.tol self.entry.width result × (result.at ≡ self.entry.width) }
+    {
+        let window = Window {
+            enter: 0,
+            leave: 0,
+            sum: 0,
+        };
+        let run = Run {
+            peak: 0,
+            start: 0,
+            end: 0,
+        };
+        let mut st = State {
+            at: 0,
+            window,
+            run,
+            total: 0,
+        };
+        // By events: a step goes from one centre to the next at which the sum may differ.
+        while st.at < self.width {
+            st = self.step(st);
+        }
+        st
+    }
+
+    // The answer over all centres.
+    fn peak(self) -> Peak
+        requires { (0 < self.width) × (nat_abs self.bins.low ≤ 2 ^ 33) }
+        ensures { let b = self.entry.bins in result ≡ peak_over (window_sum (place b.s.now b.low) (votes b.s.now) b.n self.entry.tol) (mode_near b.s.now b.n self.entry.tol) b.low self.entry.width }
+    {
+        let bins = self.bins;
+        let st = self.sweep();
+        let run = st.run;
+        let centre = centre_at(bins.low, run.start + (run.end - 1 - run.start) / 2);
+        let from = advance(bins, 0, run.start.saturating_sub(self.tol));
+        let to = advance(bins, from.at, run.end + self.tol);
+        let mode = mode_offset(bins.s, bins.n, from.at, to.at);
+        Peak {
+            votes: run.peak,
+            centre,
+            mode: mode.unwrap_or(centre),
+            total: st.total,
+        }
+    }
 }
 
 // The centre x places above the low end.
@@ -318,27 +367,6 @@ fn centre_at(low: i64, x: u64) -> i64
 {
     let y = x as i64;
     low + y
-}
-
-// The answer over the `width` centres from low on.
-fn peak_over(s: &[i64], n: usize, tol: u64, low: i64, width: u64) -> Peak
-    requires { Placed s.now low n × (tol ≤ 65535) × (0 < width) × (width ≤ 2 ^ 33) × (nat_abs low ≤ 2 ^ 33) }
-    ensures { result ≡ peak_over (window_sum (place s.now low) (votes s.now) n tol) (mode_near s.now n tol) low width }
-{
-    let st = sweep(s, low, n, tol, width);
-    let run = st.run;
-    let start = run.start;
-    let end = run.end;
-    let centre = centre_at(low, start + (end - 1 - start) / 2);
-    let from = advance(s, low, n, 0, saturating_sub(start, tol));
-    let to = advance(s, low, n, from.at, end + tol);
-    let mode = mode_offset(s, n, from.at, to.at).unwrap_or(centre);
-    Peak {
-        votes: run.peak,
-        centre,
-        mode,
-        total: st.total,
-    }
 }
 
 // The peak of the window sums of n bins over the centres from low to high. Only those centres are
@@ -355,9 +383,9 @@ pub fn sparse_wang_box_peak(s: &[i64], n: usize, tol: u64, low: i64, high: i64) 
             total: 0,
         };
     }
-    let span = high - low;
-    let width = span as u64 + 1;
-    peak_over(s, n, tol, low, width)
+    let bins = Places { s, n, low };
+    let width = high.abs_diff(low) + 1;
+    Sweep { bins, tol, width }.peak()
 }
 
 // ---- for any arguments
@@ -366,9 +394,9 @@ fn bin_ok(s: &[i64], i: usize) -> bool
     requires { 2 * i + 1 < length s.now }
     ensures { result ≡ bin_ok s.now i }
 {
-    let d = word_at(s, 2 * i);
-    let v = word_at(s, 2 * i + 1);
-    (unsigned_abs(d) <= 8589934592) & (is_natural(v) & (unsigned_abs(v) < 4294967296))
+    let d = s[2 * i];
+    let v = s[2 * i + 1];
+    (d.unsigned_abs() <= 8589934592) & ((v >= 0) & (v.unsigned_abs() < 4294967296))
 }
 
 // Whether `mode_offset` takes the first n bins of s.
@@ -381,12 +409,10 @@ pub fn bins_ok(s: &[i64], n: usize) -> bool
     if 2 * n > s.len() {
         return false;
     }
-    let mut i = 0;
-    while i < n {
+    for i in 0..n {
         if !bin_ok(s, i) {
             return false;
         }
-        i += 1;
     }
     true
 }
@@ -400,28 +426,26 @@ fn rises(s: &[i64], n: usize, i: usize) -> bool
     if n <= next {
         return true;
     }
-    is_less(word_at(s, 2 * i), word_at(s, 2 * next))
+    s[2 * i] < s[2 * next]
 }
 
 fn in_span(s: &[i64], n: usize, low: i64, high: i64, i: usize) -> bool
     requires { (i < n) × (2 * n ≤ length s.now) }
     ensures { result ≡ in_span s.now n low high i }
 {
-    let d = word_at(s, 2 * i);
-    let v = unsigned_abs(word_at(s, 2 * i + 1));
-    (0 < v) & (is_at_most(low, d) & (is_at_most(d, high) & rises(s, n, i)))
+    let d = s[2 * i];
+    let v = s[2 * i + 1].unsigned_abs();
+    (0 < v) & ((low <= d) & ((d <= high) & rises(s, n, i)))
 }
 
 fn all_in_span(s: &[i64], n: usize, low: i64, high: i64) -> bool
     requires { 2 * n ≤ length s.now }
     ensures { result ≡ every n (in_span s.now n low high) }
 {
-    let mut i = 0;
-    while i < n {
+    for i in 0..n {
         if !in_span(s, n, low, high, i) {
             return false;
         }
-        i += 1;
     }
     true
 }
@@ -432,13 +456,11 @@ pub fn sum_ok(s: &[i64], n: usize, stride: usize, field: usize) -> bool
     ensures { result ≡ leb (sum_to (λ i. nat_abs (get_or s.now (stride * i + field) (pos 0))) n) 1000000 }
 {
     let mut sum: u64 = 0;
-    let mut i = 0;
-    while i < n {
-        sum += unsigned_abs(word_at(s, stride * i + field));
+    for i in 0..n {
+        sum += s[stride * i + field].unsigned_abs();
         if sum > 1000000 {
             return false;
         }
-        i += 1;
     }
     true
 }
@@ -446,7 +468,7 @@ pub fn sum_ok(s: &[i64], n: usize, stride: usize, field: usize) -> bool
 fn ends_ok(tol: u64, low: i64, high: i64) -> bool
     ensures { result ≡ ends_ok tol low high }
 {
-    (tol <= 65535) & ((unsigned_abs(low) < 4294967296) & (unsigned_abs(high) < 4294967296))
+    (tol <= 65535) & ((low.unsigned_abs() < 4294967296) & (high.unsigned_abs() < 4294967296))
 }
 
 // Whether `sparse_wang_box_peak` takes these arguments.

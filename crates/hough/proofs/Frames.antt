@@ -17,15 +17,15 @@ use mir.ValLaws.{to_z-of_z, to_z_pos}
 use Rattle.maps.specs.Sums.{sum_to, when}
 use Rattle.signed.proofs.Sizes.{fits-abs, abs-sub}
 use Rattle.maps.proofs.Sums.{sum-zero, sum-next, sum-cong, sum_mono, sum_kept}
-use Rattle.consolidate.specs.Tallies.{tally_of}
-use Rattle.consolidate.specs.Modes.{nearest_mean}
+use Rattle.consolidate.specs.Tallies.{tally_of, no_tally, mode_of}
+use Rattle.std.specs.Prelude.{unwrap_or}
 use Rattle.consolidate.specs.declared.Tally.{Tally}
 use Rattle.consolidate.proofs.Tallies.{Tallied, tally-none, tally-more, tally-small}
 use Rattle.hough.specs.Hough.{scale, offset, votes, dist, gap, neighbour, frame, merged, peak_offset}
 use Rattle.hough.specs.Limits.{Bins}
 use Rattle.hough.specs.Keys.{place, count_at, frame_tally}
 use Rattle.hough.proofs.Places.{place-fits, apart-is}
-use Rattle.hough.proofs.Merging.{one-offset, frame-close, frame-gap, offset-none, offset-is}
+use Rattle.hough.proofs.Merging.{one-offset, frame-close, frame-gap, offset-is}
 
 -- ---- the counts at one place
 
@@ -63,7 +63,7 @@ module _ (l : List ℤ) (n tol i : ℕ) where
       let ih = tally-at x in
       subst (λ (k : ℕ). Tallied (merged l n tol i) (frame l tol i) k (frame_tally l n tol i (suc x))) (add-one x) (tally-more (merged l n tol i) (frame l tol i) x (frame_tally l n tol i x) ih)
 
-  pub frames-none : record { best = 0; count = 0; sum = pos 0 } ≡ frame_tally l n tol i 0
+  pub frames-none : no_tally ≡ frame_tally l n tol i 0
   unfolding frame_tally
   frames-none = refl
 
@@ -83,11 +83,10 @@ module _ (l : List ℤ) (n tol i : ℕ) where
       let m : x + (z - x) ≡ z = omega arith in
       e ∙ sym (leap x (z - x) (λ y a b. off y a (omega arith))) ∙ ap (frame_tally l n tol i) m
 
-  pub frames-offset : (t : Tally) → t ≡ frame_tally l n tol i (2 * tol + 1)
-      → (t.best ≡ 0 → offset l i ≡ peak_offset l n tol i) × ((t.best ≡ 0 → ⊥) → nearest_mean t.sum t.count ≡ peak_offset l n tol i) × ((t.best ≡ 0 → ⊥) → 0 < t.count)
+  pub frames-offset : (t : Tally) → t ≡ frame_tally l n tol i (2 * tol + 1) → (unwrap_or (mode_of t) (offset l i) ≡ peak_offset l n tol i) × (0 < t.best → 0 < t.count)
   frames-offset t e =
       let T : Tallied (merged l n tol i) (frame l tol i) (2 * tol + 1) t = subst (Tallied (merged l n tol i) (frame l tol i) (2 * tol + 1)) (sym e) (tally-at (2 * tol + 1)) in
-      (offset-none l n tol i t T, offset-is l n tol i t T, (λ h. T.some (omega arith)))
+      (offset-is l n tol i t T, T.some)
 
 module _ (l : List ℤ) (n : ℕ) (b : Bins l n) (tol i : ℕ) (T : tol ≤ 65535) (h : i < n) where
   -- what it can have come to

@@ -10,13 +10,14 @@ use lib.Signed.{non_neg, pos-nat_abs}
 use lib.Dec.{T, leb, eqb}
 use borrow.Author.Tests.{lt-leb, le-leb, le-ltb, eq-eqb, ne_eqb}
 use Rattle.maps.specs.Sums.{sum_to, when}
-use Rattle.consolidate.specs.Modes.{nearest_mean, mode_or}
+use Rattle.std.specs.Prelude.{unwrap_or}
+use Rattle.consolidate.specs.Tallies.{mode_of}
 use Rattle.consolidate.specs.Windows.{withinℕ, window_sum, Covers}
 use Rattle.consolidate.specs.declared.Tally.{Tally}
 use Rattle.consolidate.specs.declared.Window.{Window}
 use Rattle.maps.proofs.Sums.{sum-cong, sum-add, sum-none}
 use Rattle.signed.proofs.Sizes.{abs-add, sub-dist}
-use Rattle.consolidate.proofs.Tallies.{Tallied, mode-none, mode-some}
+use Rattle.consolidate.proofs.Tallies.{Tallied, mode-is, unwrap-is}
 use Rattle.hough.specs.Hough.{scale, offset, votes, dist, gap, neighbour, frame, merged, peak_offset}
 use Rattle.hough.specs.Limits.{Bins}
 use Rattle.hough.specs.Keys.{row, place, key, Around, Clear}
@@ -141,10 +142,6 @@ module _ (l : List ℤ) (n : ℕ) (b : Bins l n) (tol i : ℕ) (T : tol ≤ 6553
 -- ---- the reported offset
 
 module _ (l : List ℤ) (n tol i : ℕ) (t : Tally) (T : Tallied (merged l n tol i) (frame l tol i) (2 * tol + 1) t) where
-  pub offset-none : t.best ≡ 0 → offset l i ≡ peak_offset l n tol i
+  pub offset-is : unwrap_or (mode_of t) (offset l i) ≡ peak_offset l n tol i
   unfolding peak_offset
-  offset-none e = ap (mode_or (offset l i)) (mode-none (merged l n tol i) (frame l tol i) (2 * tol + 1) t T e)
-
-  pub offset-is : (t.best ≡ 0 → ⊥) → nearest_mean t.sum t.count ≡ peak_offset l n tol i
-  unfolding peak_offset
-  offset-is h = ap (mode_or (offset l i)) (mode-some (merged l n tol i) (frame l tol i) (2 * tol + 1) t T h)
+  offset-is = rw (unwrap-is (mode_of t) (offset l i), mode-is (merged l n tol i) (frame l tol i) (2 * tol + 1) t T) refl

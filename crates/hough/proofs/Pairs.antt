@@ -18,7 +18,7 @@ use Rattle.hough.specs.Hough.{scale, votes, dist, neighbour, hough_sum}
 use Rattle.hough.specs.Limits.{Bins, Written}
 use Rattle.hough.specs.Keys.{row, place, key, near_by}
 use Rattle.hough.proofs.Rows.{Inside, dist-is}
-use Rattle.hough.proofs.Places.{inside, keys-up, apart-is, hough-none, hough-small}
+use Rattle.hough.proofs.Places.{inside, keys_up, apart-is, hough-none, hough-small}
 use Rattle.hough.proofs.Summing.{other_word, written-more}
 
 -- ---- the keys of neighbours
@@ -46,7 +46,7 @@ module _ (l : List ℤ) (n : ℕ) (b : Bins l n) (tol : ℕ) (T : tol ≤ 65535)
   before-is : (i j : ℕ) → j < i → i < n → near_by tol (key l i - key l j) ≡ neighbour l tol i j
   unfolding key
   before-is i j h u =
-      let r = keys-up l n b j i h u in
+      let r = keys_up l n b j i h u in
       rw (apart-is l n b i j u (omega arith)) (near-is (scale l i) (scale l j) (place l i) (place l j) tol (inside l n b i u) (inside l n b j (omega arith)) T r)
 
   other_way : (i j : ℕ) → i < n → j < n → neighbour l tol i j ≡ neighbour l tol j i

@@ -52,6 +52,9 @@ abbrev pub three_sums : List ℤ → ℕ → ℕ → ℕ → ℕ
 three_sums l n tol x = window_sum (key l) (votes l) n tol (x - row) + window_sum (key l) (votes l) n tol x + window_sum (key l) (votes l) n tol (x + row)
 
 module _ (l : List ℤ) (n : ℕ) (b : Bins l n) where
+  pub offset-small : (i : ℕ) → i < n → SFits w64 (offset l i)
+  offset-small i h = fits-abs (offset l i) (omega (arith, b.close i h))
+
   pub place-fits : (i : ℕ) → i < n → T (non_neg (offset l i +ℤ pos (2 ^ 40))) × (place l i ≤ 2 ^ 40 + 2 ^ 39) × (2 ^ 39 ≤ place l i)
   unfolding place
   place-fits i h = let a = above (offset l i) (2 ^ 39) (2 ^ 40) (b.close i h) (omega arith) in (a.0, omega (arith, a.1), omega (arith, a.2))
@@ -94,8 +97,8 @@ module _ (l : List ℤ) (n : ℕ) (b : Bins l n) where
           let r = or_else (ltb (scale l i) (scale l (i + 1))) (q && t) (is_true (before l i (i + 1)) (b.ascend i h)) e in
           omega (arith, eqb-true (scale l i) (scale l (i + 1)) (and_left q t r), up (offset l i) (offset l (i + 1)) (2 ^ 40) (omega (arith, b.close i hi)) (omega (arith, b.close (i + 1) h)) (holds (and_right q t r)))
 
-  pub keys-up : Ascend (key l) n
-  keys-up = climbs (key l) n rise
+  pub keys_up : Ascend (key l) n
+  keys_up = climbs (key l) n rise
 
   pub apart-is : (i j : ℕ) → i < n → j < n → gap (offset l i) (offset l j) ≡ dist (place l i) (place l j)
   unfolding place

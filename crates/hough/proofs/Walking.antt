@@ -8,7 +8,7 @@ use native.Mathlib.Decide.{dec_lt}
 use lib.IntN.{ℤ}
 use lib.Dec.{ltb}
 use borrow.Author.Tests.{ltb-true, ltb-false}
-use Rattle.maps.specs.Sums.{sum_to, greatest, when}
+use Rattle.maps.specs.Sums.{sum_to, when}
 use Rattle.maps.proofs.Sums.{sum-next}
 use Rattle.consolidate.specs.Runs.{Leads}
 use Rattle.consolidate.proofs.Leading.{leads-new, leads-on, leads-greatest, leads-first}
@@ -19,7 +19,7 @@ use Rattle.hough.specs.Keys.{row, key, Ready, Around, at_start, better_of, more_
 use Rattle.hough.specs.declared.Peak.{Peak}
 use Rattle.hough.specs.declared.Background.{Background}
 use Rattle.hough.specs.declared.Windows.{Windows}
-use Rattle.hough.proofs.Places.{three_sums, keys-up, hough-is, hough-small}
+use Rattle.hough.proofs.Places.{three_sums, keys_up, hough-is, hough-small}
 
 -- ---- three windows
 
@@ -39,7 +39,7 @@ three-sums l n tol x t o = omega (arith, covers-sum o.under, covers-sum o.here, 
 
 module _ (l : List ℤ) (n tol : ℕ) (b : Bins l n) where
   pub ready-next : (i : ℕ) (t : Windows) → Around l n tol (key l i) t → i + 1 < n → Ready l n tol (key l (i + 1)) t
-  ready-next i t o h = let k = keys-up l n b i (i + 1) (omega arith) h in ready_on l n tol (key l i) (key l (i + 1)) t (omega arith) o
+  ready-next i t o h = let k = keys_up l n b i (i + 1) (omega arith) h in ready_on l n tol (key l i) (key l (i + 1)) t (omega arith) o
 
   pub around-sum : (i : ℕ) (t : Windows) → tol ≤ 65535 → i < n → Around l n tol (key l i) t → t.under.sum + t.here.sum + t.over.sum ≡ hough_sum l n tol i
   around-sum i t T h o = three-sums l n tol (key l i) t o ∙ sym (hough-is l n b tol i T h)

@@ -29,6 +29,10 @@ place l i = nat_abs (offset l i +ℤ pos (2 ^ 40))
 unfoldable pub key : List ℤ → ℕ → ℕ
 key l i = (scale l i + 1) * row + place l i
 
+-- the keys of n bins ascend, which those of any bins do (proofs/Places.antt)
+abbrev pub KeysAscend : List ℤ → ℕ → Type 0
+KeysAscend l n = (i j : ℕ) → i < j → j < n → key l i < key l j
+
 -- keys that lie d apart are those of neighbours
 abbrev pub near_by : ℕ → ℕ → Bool
 near_by tol d = leb d tol || (leb d (row + tol) && leb (row - tol) d)

@@ -15,12 +15,11 @@ ghost use Rattle.std.specs.Int.Signed.{non_neg};
 ghost use Rattle.lists.specs.Every.{every};
 ghost use Rattle.maps.specs.Sums.{when};
 ghost use Rattle.maps.specs.Words.{nat_of};
-ghost use Rattle.consolidate.specs.Windows.{Passed, Slides, Covers};
 ghost use Rattle.hough.specs.Hough.{scale, offset, votes, dist, far, hough_sum, hough_peak, peak_offset, far_sum, far_count, mean_of, prominence};
 ghost use Rattle.hough.specs.Limits.{before, Bins, Roomy, Written, Summed, Kept, WithSums, bin_ok, bins_ok, hough_ok, answer_at, checked_answer, LeftAfter};
-ghost use Rattle.hough.specs.Keys.{few_bins, small_tolerance, place, key, near_by, Ready, Around, at_start, better_of, more_of, Ahead, Clear, count_at, frame_tally};
+ghost use Rattle.hough.specs.Keys.{few_bins, small_tolerance, place, key, KeysAscend, near_by, Ready, Around, at_start, better_of, more_of, Ahead, Clear, count_at, frame_tally};
 
-use consolidate::{Pass, Tally, Window};
+use consolidate::{Ascending, Tally, Window};
 
 const ROW: u64 = 0x200_0000_0000;
 
@@ -49,61 +48,76 @@ pub struct Answer {
 
 // ---- bins
 
+// The first n bins of s.
+#[derive(Clone, Copy)]
+struct Keyed<'a> {
+    s: &'a [i64],
+    n: usize,
+    ghost bins: { Bins s.now n },
+    ghost up: { KeysAscend s.now n },
+}
+
+impl<'a> Keyed<'a> {
+    // The scale bin of bin i.
+    fn scale(self, i: usize) -> u64
+        requires { i < self.n }
+        ensures { (result ≡ scale self.entry.s.now i) × (result ≤ 4095) }
+    {
+        self.s[3 * i] as u64
+    }
+
+    // The offset of bin i.
+    fn offset(self, i: usize) -> i64
+        requires { i < self.n }
+        ensures { result ≡ offset self.entry.s.now i }
+    {
+        self.s[3 * i + 1]
+    }
+
+    // The place of bin i in its row.
+    fn place(self, i: usize) -> u64
+        requires { i < self.n }
+        ensures { (result ≡ place self.entry.s.now i) × (result ≤ 2 ^ 40 + 2 ^ 39) × (2 ^ 39 ≤ result) }
+    {
+        let v = self.s[3 * i + 1] + MIDDLE;
+        v as u64
+    }
+}
+
+impl<'a> Ascending for Keyed<'a> {
+    ghost keys = { λ b. key b.s.now };
+
+    ghost counts = { λ b. votes b.s.now };
+
+    ghost number = { λ b. b.n };
+
+    fn len(self) -> usize {
+        self.n
+    }
+
+    fn key(self, i: usize) -> u64 {
+        let row = self.scale(i) + 1;
+        row * ROW + self.place(i)
+    }
+
+    fn votes(self, i: usize) -> u64 {
+        self.s[3 * i + 2] as u64
+    }
+
+    ghost ascend = { λ b. b.up };
+
+    ghost few = { λ b. b.bins.sum };
+}
+
 // The scale bin of bin i.
 pub fn scale_at(s: &[i64], n: usize, i: usize) -> u64
     requires { Bins s.now n × (i < n) }
     ensures { (result ≡ scale s.now i) × (result ≤ 4095) }
 {
-    let j = 3 * i;
-    let v = s[j];
-    v as u64
-}
-
-// The offset of bin i.
-fn offset_at(s: &[i64], n: usize, i: usize) -> i64
-    requires { Bins s.now n × (i < n) }
-    ensures { result ≡ offset s.now i }
-{
-    let j = 3 * i + 1;
-    s[j]
-}
-
-// The place of bin i in its row.
-fn place_at(s: &[i64], n: usize, i: usize) -> u64
-    requires { Bins s.now n × (i < n) }
-    ensures { (result ≡ place s.now i) × (result ≤ 2 ^ 40 + 2 ^ 39) × (2 ^ 39 ≤ result) }
-{
-    let j = 3 * i + 1;
-    let v = s[j] + MIDDLE;
-    v as u64
-}
-
-// The count of bin i.
-fn votes_at(s: &[i64], n: usize, i: usize) -> u64
-    requires { Bins s.now n × (i < n) }
-    ensures { result ≡ votes s.now i }
-{
-    let j = 3 * i + 2;
-    let v = s[j];
-    v as u64
-}
-
-fn key_at(s: &[i64], n: usize, i: usize) -> u64
-    requires { Bins s.now n × (i < n) }
-    ensures { (result ≡ key s.now i) × (result ≤ 2 ^ 54) × (2 ^ 41 + 2 ^ 39 ≤ result) }
-{
-    let row = scale_at(s, n, i) + 1;
-    row * ROW + place_at(s, n, i)
+    Keyed { s, n }.scale(i)
 }
 
 // ---- a few bins
-
-// Rust's `a.abs_diff(b)`.
-fn abs_diff(a: u64, b: u64) -> u64
-    ensures { result ≡ dist a b }
-{
-    if a <= b { b - a } else { a - b }
-}
 
 // Whether keys that lie d apart are those of neighbours: in one row, or one in the next row.
 fn is_near(d: u64, tol: u64) -> bool
@@ -136,15 +150,15 @@ fn add_bin(s: &mut [i64], n: usize, tol: u64, i: usize)
     ensures written { Written (hough_sum (take (3 * n) s.old) (i + 1) tol) (i + 1) s.new (3 * n) }
 {
     let e = 3 * n;
-    let x = key_at(&s[..e], n, i);
-    let v = votes_at(&s[..e], n, i);
+    let own = Keyed { s: &s[..e], n };
+    let x = own.key(i);
+    let v = own.votes(i);
     let mut sum: u64 = 0;
-    let mut j: usize = 0;
-    while j < i {
-        let near = is_near(x - key_at(&s[..e], n, j), tol);
-        sum += kept(near, votes_at(&s[..e], n, j));
+    for j in 0..i {
+        let other = Keyed { s: &s[..e], n };
+        let near = is_near(x - other.key(j), tol);
+        sum += kept(near, other.votes(j));
         add_to(s, e + j, kept(near, v));
-        j += 1;
     }
     maps::put_word(s, e + i, sum + v);
 }
@@ -154,48 +168,12 @@ fn pair_sums(s: &mut [i64], n: usize, tol: u64)
     requires { Roomy s.old n × (tol ≤ 65535) × (n ≤ few_bins) }
     ensures { WithSums s.old s.new n tol }
 {
-    let mut i: usize = 0;
-    while i < n {
+    for i in 0..n {
         add_bin(s, n, tol, i);
-        i += 1;
     }
 }
 
 // ---- windows
-
-// Passes the bins from `from` on whose keys lie below `below`.
-fn advance(s: &[i64], n: usize, from: usize, below: u64) -> Pass
-    requires { Bins s.now n × (from ≤ n) }
-    ensures { Passed (key s.now) (votes s.now) n from below result.at result.sum }
-{
-    let mut i = from;
-    let mut sum: u64 = 0;
-    while i < n {
-        if key_at(s, n, i) >= below {
-            return Pass { at: i, sum };
-        }
-        sum += votes_at(s, n, i);
-        i += 1;
-    }
-    Pass { at: i, sum }
-}
-
-// The window around the key x, from one around a key that is no higher.
-fn moved(s: &[i64], n: usize, tol: u64, w: Window, x: u64) -> Window
-    requires { Bins s.now n × (tol ≤ 65535) × (65535 ≤ x) × (x ≤ 2 ^ 55) × Slides (key s.now) (votes s.now) n tol x w }
-    ensures { Covers (key s.now) (votes s.now) n tol x result × (result.sum ≤ 1000000) }
-{
-    let enter = w.enter;
-    let leave = w.leave;
-    let entered = advance(s, n, enter, x + tol + 1);
-    let left = advance(s, n, leave, x - tol);
-    let sum = w.sum + entered.sum - left.sum;
-    Window {
-        enter: entered.at,
-        leave: left.at,
-        sum,
-    }
-}
 
 // One row down, in the row itself and one row up; and the sum of the three.
 #[derive(Clone, Copy)]
@@ -204,35 +182,6 @@ pub struct Windows {
     pub here: Window,
     pub over: Window,
     pub sum: u64,
-}
-
-// The three windows around the key x.
-fn around(s: &[i64], n: usize, tol: u64, t: Windows, x: u64) -> Windows
-    requires { Bins s.now n × (tol ≤ 65535) × (2 ^ 41 + 65535 ≤ x) × (x ≤ 2 ^ 54 + 131072) × Ready s.now n tol x t }
-    ensures { Around s.now n tol x result × (result.sum ≡ result.under.sum + result.here.sum + result.over.sum) }
-{
-    let u = t.under;
-    let h = t.here;
-    let o = t.over;
-    let under = moved(s, n, tol, u, x - ROW);
-    let here = moved(s, n, tol, h, x);
-    let over = moved(s, n, tol, o, x + ROW);
-    let sum = under.sum + here.sum + over.sum;
-    Windows {
-        under,
-        here,
-        over,
-        sum,
-    }
-}
-
-// The three windows of bin i, and the sum of its neighbours' counts.
-fn stepped(s: &[i64], n: usize, tol: u64, t: Windows, i: usize) -> Windows
-    requires { Bins s.now n × (tol ≤ 65535) × (i < n) × Ready s.now n tol (key s.now i) t }
-    ensures { Around s.now n tol (key s.now i) result × (result.sum ≡ hough_sum s.now n tol i) × (result.sum ≤ 1000000) }
-{
-    let x = key_at(s, n, i);
-    around(s, n, tol, t, x)
 }
 
 fn at_start() -> Windows
@@ -251,6 +200,33 @@ fn at_start() -> Windows
     }
 }
 
+impl<'a> Keyed<'a> {
+    // The three windows around the key x.
+    fn around(self, tol: u64, t: Windows, x: u64) -> Windows
+        requires { (tol ≤ 65535) × (2 ^ 41 + 65535 ≤ x) × (x ≤ 2 ^ 54 + 131072) × Ready self.s.now self.n tol x t }
+        ensures { Around self.entry.s.now self.entry.n tol x result × (result.sum ≡ result.under.sum + result.here.sum + result.over.sum) }
+    {
+        let under = consolidate::moved(self, tol, t.under, x - ROW);
+        let here = consolidate::moved(self, tol, t.here, x);
+        let over = consolidate::moved(self, tol, t.over, x + ROW);
+        let sum = under.sum + here.sum + over.sum;
+        Windows {
+            under,
+            here,
+            over,
+            sum,
+        }
+    }
+
+    // The three windows of bin i, and the sum of its neighbours' counts.
+    fn stepped(self, tol: u64, t: Windows, i: usize) -> Windows
+        requires { (tol ≤ 65535) × (i < self.n) × Ready self.s.now self.n tol (key self.s.now i) t }
+        ensures { Around self.entry.s.now self.entry.n tol (key self.entry.s.now i) result × (result.sum ≡ hough_sum self.entry.s.now self.entry.n tol i) × (result.sum ≤ 1000000) }
+    {
+        self.around(tol, t, self.key(i))
+    }
+}
+
 // The sum of each bin, by sliding windows.
 fn slid_sums(s: &mut [i64], n: usize, tol: u64)
     requires { Roomy s.old n × (tol ≤ 65535) }
@@ -258,11 +234,9 @@ fn slid_sums(s: &mut [i64], n: usize, tol: u64)
 {
     let e = 3 * n;
     let mut t = at_start();
-    let mut i: usize = 0;
-    while i < n {
-        t = stepped(&s[..e], n, tol, t, i);
+    for i in 0..n {
+        t = Keyed { s: &s[..e], n }.stepped(tol, t, i);
         maps::put_word(s, e + i, t.sum);
-        i += 1;
     }
 }
 
@@ -279,25 +253,76 @@ pub fn put_sums(s: &mut [i64], n: usize, tol: u64)
     }
 }
 
-// The sum of bin i, of n bins with their sums behind them.
-fn sum_at(s: &[i64], n: usize, tol: u64, i: usize) -> u64
-    requires { Roomy s.now n × Summed s.now n tol × (i < n) }
-    ensures { (result ≡ hough_sum (take (3 * n) s.now) n tol i) × (result ≤ 1000000) }
-{
-    let j = 3 * n + i;
-    let v = s[j];
-    v as u64
+// The first n bins of s, and their sums behind them.
+#[derive(Clone, Copy)]
+struct Sums<'a> {
+    s: &'a [i64],
+    n: usize,
+    tol: u64,
+    ghost roomy: { Roomy s.now n },
+    ghost summed: { Summed s.now n tol },
 }
 
-// ---- the peak
-
-fn better(p: Peak, i: usize, v: u64) -> Peak
-    ensures { result ≡ better_of p i v }
-{
-    if p.votes < v {
-        return Peak { votes: v, at: i };
+impl<'a> Sums<'a> {
+    // The sum of bin i.
+    fn at(self, i: usize) -> u64
+        requires { i < self.n }
+        ensures { let b = self.entry in (result ≡ hough_sum (take (3 * b.n) b.s.now) b.n b.tol i) × (result ≤ 1000000) }
+    {
+        self.s[3 * self.n + i] as u64
     }
-    p
+
+    // ---- the peak
+
+    fn peak(self) -> Peak
+        ensures value { let b = self.entry in result ≡ hough_peak (take (3 * b.n) b.s.now) b.n b.tol }
+        ensures at_lt_n { (0 < self.entry.n → result.at < self.entry.n) × (result.votes ≤ 1000000) }
+    {
+        let mut best = Peak { votes: 0, at: 0 };
+        for i in 0..self.n {
+            best = best.with(i, self.at(i));
+        }
+        best
+    }
+
+    // ---- the background
+
+    // That of bin a.
+    fn background(self, a: usize) -> Background
+        requires { (self.tol ≤ 65535) × (a < self.n) }
+        ensures { let b = self.entry in (result.sum ≡ far_sum (take (3 * b.n) b.s.now) b.n b.tol a) × (result.count ≡ far_count (take (3 * b.n) b.s.now) b.n b.tol a) }
+    {
+        let n = self.n;
+        let bins = Keyed {
+            s: &self.s[..3 * n],
+            n,
+        };
+        let mut b = Background { sum: 0, count: 0 };
+        for i in 0..n {
+            b = b.with(bins.is_far(self.tol, a, i), self.at(i));
+        }
+        b
+    }
+
+    fn prominence(self, p: Peak) -> f32
+        requires { (self.tol ≤ 65535) × (p.at < self.n) }
+        ensures { let b = self.entry in result ≡ prominence (take (3 * b.n) b.s.now) b.n b.tol p.votes p.at }
+    {
+        let b = self.background(p.at);
+        floats::u64_to_f32(p.votes) / (b.mean() + 1.0)
+    }
+}
+
+impl Peak {
+    // With the sum v of bin i.
+    fn with(self, i: usize, v: u64) -> Peak
+        ensures { result ≡ better_of self i v }
+    {
+        if self.votes < v {
+            return Peak { votes: v, at: i };
+        }
+        self
+    }
 }
 
 // The greatest sum, and the first bin that has it, of n bins with their sums behind them.
@@ -306,25 +331,21 @@ pub fn panako_hough_peak(s: &[i64], n: usize, tol: u64) -> Peak
     ensures value { result ≡ hough_peak (take (3 * n) s.now) n tol }
     ensures at_lt_n { (0 < n → result.at < n) × (result.votes ≤ 1000000) }
 {
-    let mut best = Peak { votes: 0, at: 0 };
-    let mut i: usize = 0;
-    while i < n {
-        best = better(best, i, sum_at(s, n, tol, i));
-        i += 1;
-    }
-    best
+    Sums { s, n, tol }.peak()
 }
 
 // ---- the prominence
 
-// Bin i is out of the reach of bin a.
-fn is_far(s: &[i64], n: usize, tol: u64, a: usize, i: usize) -> bool
-    requires { Bins s.now n × (tol ≤ 65535) × (a < n) × (i < n) }
-    ensures { result ≡ far s.now tol a i }
-{
-    let scales = abs_diff(scale_at(s, n, a), scale_at(s, n, i));
-    let frames = abs_diff(place_at(s, n, a), place_at(s, n, i));
-    (scales > 2) | (frames > 2 * tol)
+impl<'a> Keyed<'a> {
+    // Bin i is out of the reach of bin a.
+    fn is_far(self, tol: u64, a: usize, i: usize) -> bool
+        requires { (tol ≤ 65535) × (a < self.n) × (i < self.n) }
+        ensures { result ≡ far self.entry.s.now tol a i }
+    {
+        let scales = self.scale(a).abs_diff(self.scale(i));
+        let frames = self.place(a).abs_diff(self.place(i));
+        (scales > 2) | (frames > 2 * tol)
+    }
 }
 
 // The sums of the bins out of reach, added up, and how many they are.
@@ -334,41 +355,29 @@ pub struct Background {
     pub count: u64,
 }
 
-fn more(b: Background, far: bool, v: u64) -> Background
-    requires { (b.sum ≤ 2 ^ 60) × (b.count ≤ 2 ^ 60) × (v ≤ 2 ^ 60) }
-    ensures { result ≡ more_of b far v }
-{
-    if far {
-        return Background {
-            sum: b.sum + v,
-            count: b.count + 1,
-        };
+impl Background {
+    // With the sum v of a bin, if that bin is far.
+    fn with(self, far: bool, v: u64) -> Background
+        requires { (self.sum ≤ 2 ^ 60) × (self.count ≤ 2 ^ 60) × (v ≤ 2 ^ 60) }
+        ensures { result ≡ more_of self far v }
+    {
+        if far {
+            return Background {
+                sum: self.sum + v,
+                count: self.count + 1,
+            };
+        }
+        self
     }
-    b
-}
 
-// The background of bin a, of n bins with their sums behind them.
-fn background_of(s: &[i64], n: usize, tol: u64, a: usize) -> Background
-    requires { Roomy s.now n × (tol ≤ 65535) × Summed s.now n tol × (a < n) }
-    ensures { (result.sum ≡ far_sum (take (3 * n) s.now) n tol a) × (result.count ≡ far_count (take (3 * n) s.now) n tol a) }
-{
-    let e = 3 * n;
-    let mut b = Background { sum: 0, count: 0 };
-    let mut i: usize = 0;
-    while i < n {
-        b = more(b, is_far(&s[..e], n, tol, a, i), sum_at(s, n, tol, i));
-        i += 1;
+    fn mean(self) -> f32
+        ensures { result ≡ mean_of self.sum self.count }
+    {
+        if self.count == 0 {
+            return 0.0;
+        }
+        floats::u64_to_f32(self.sum) / floats::u64_to_f32(self.count)
     }
-    b
-}
-
-fn mean(b: Background) -> f32
-    ensures { result ≡ mean_of b.sum b.count }
-{
-    if b.count == 0 {
-        return 0.0;
-    }
-    floats::u64_to_f32(b.sum) / floats::u64_to_f32(b.count)
 }
 
 // The peak's votes over one more than the mean of the sums out of its reach, of n bins with their sums
@@ -377,119 +386,114 @@ pub fn panako_prominence(s: &[i64], n: usize, tol: u64, p: Peak) -> f32
     requires { Roomy s.now n × (tol ≤ 65535) × Summed s.now n tol × (p.at < n) }
     ensures { result ≡ prominence (take (3 * n) s.now) n tol p.votes p.at }
 {
-    let b = background_of(s, n, tol, p.at);
-    floats::u64_to_f32(p.votes) / (mean(b) + 1.0)
+    Sums { s, n, tol }.prominence(p)
 }
 
 // ---- the peak's offset
 
-// How far the key of bin `at` lies above x, or `most` where that is more or there is no such bin.
-fn ahead(s: &[i64], n: usize, at: usize, x: u64, most: u64) -> u64
-    requires { Bins s.now n × (0 < most) × ((j : ℕ) → at ≤ j → j < n → x < key s.now j) }
-    ensures { Ahead (key s.now) n at x most result }
-{
-    if at < n {
-        let d = key_at(s, n, at) - x;
-        if d < most {
-            return d;
+impl<'a> Keyed<'a> {
+    // How far the key of bin `at` lies above x, or `most` where that is more or there is no such bin.
+    fn ahead(self, at: usize, x: u64, most: u64) -> u64
+        requires { (0 < most) × ((j : ℕ) → at ≤ j → j < self.n → x < key self.s.now j) }
+        ensures { Ahead (key self.entry.s.now) self.entry.n at x most result }
+    {
+        if at < self.n {
+            return most.min(self.key(at) - x);
         }
+        most
     }
-    most
+
+    // How far the next offset with a bin is, and `most` at most.
+    fn next_step(self, t: Windows, x: u64, most: u64) -> u64
+        requires { (0 < most) × (2 ^ 41 ≤ x) × (x ≤ 2 ^ 54 + 131072) × Around self.s.now self.n 0 x t }
+        ensures { Clear self.entry.s.now self.entry.n x t most result }
+    {
+        let a = self.ahead(t.under.enter, x - ROW, most);
+        let b = self.ahead(t.here.enter, x, a);
+        self.ahead(t.over.enter, x + ROW, b)
+    }
+
+    // The count of bin i where it is at place x and within one scale bin of k, else 0.
+    fn votes_there(self, k: u64, x: u64, i: usize) -> u64
+        requires { i < self.n }
+        ensures { let l = self.entry.s.now in result ≡ when (leb (dist k (scale l i)) 1 && eqb (place l i) x) (votes l i) }
+    {
+        if (k.abs_diff(self.scale(i)) <= 1) & (self.place(i) == x) {
+            return self.votes(i);
+        }
+        0
+    }
+
+    // The sum of the counts at place x, within one scale bin of k.
+    fn direct_at(self, k: u64, x: u64) -> u64
+        ensures { result ≡ count_at self.entry.s.now self.entry.n k x }
+    {
+        let mut sum: u64 = 0;
+        for j in 0..self.n {
+            sum += self.votes_there(k, x, j);
+        }
+        sum
+    }
 }
 
-// How far the next offset with a bin is, and `most` at most.
-fn next_step(s: &[i64], n: usize, t: Windows, x: u64, most: u64) -> u64
-    requires { Bins s.now n × (0 < most) × (2 ^ 41 ≤ x) × (x ≤ 2 ^ 54 + 131072) × Around s.now n 0 x t }
-    ensures { Clear s.now n x t most result }
-{
-    let u = t.under;
-    let h = t.here;
-    let o = t.over;
-    let a = ahead(s, n, u.enter, x - ROW, most);
-    let b = ahead(s, n, h.enter, x, a);
-    ahead(s, n, o.enter, x + ROW, b)
+// The offsets within tol of that of bin i.
+#[derive(Clone, Copy)]
+struct Offsets<'a> {
+    bins: Keyed<'a>,
+    tol: u64,
+    i: usize,
+    ghost reach: { tol ≤ 65535 },
+    ghost inside: { i < bins.n },
 }
 
-// The tally of bin i's neighbours, merged by offset. Only the offsets that have a bin are visited.
-fn slid_tally(s: &[i64], n: usize, tol: u64, i: usize) -> Tally
-    requires { Bins s.now n × (tol ≤ 65535) × (i < n) }
-    ensures { result ≡ frame_tally s.now n tol i (2 * tol + 1) }
-{
-    let start = key_at(s, n, i) - tol;
-    let low = offset_at(s, n, i) - (tol as i64);
-    let width = 2 * tol + 1;
-    let mut t = at_start();
-    let mut y = Tally {
-        best: 0,
-        count: 0,
-        sum: 0,
-    };
-    let mut x: u64 = 0;
-    while x < width {
-        t = around(s, n, 0, t, start + x);
-        y = consolidate::tallied(y, t.sum, low + (x as i64));
-        x += next_step(s, n, t, start + x, width - x);
+impl<'a> Offsets<'a> {
+    // The tally of bin i's neighbours, merged by offset. Only the offsets that have a bin are visited.
+    fn slid_tally(self) -> Tally
+        ensures { let f = self.entry in result ≡ frame_tally f.bins.s.now f.bins.n f.tol f.i (2 * f.tol + 1) }
+    {
+        let bins = self.bins;
+        let tol = self.tol;
+        let start = bins.key(self.i) - tol;
+        let low = bins.offset(self.i) - (tol as i64);
+        let width = 2 * tol + 1;
+        let mut t = at_start();
+        let mut y = Tally::none();
+        let mut x: u64 = 0;
+        // By leaps: from one offset with a bin to the next.
+        while x < width {
+            t = bins.around(0, t, start + x);
+            y = y.with(t.sum, low + (x as i64));
+            x += bins.next_step(t, start + x, width - x);
+        }
+        y
     }
-    y
-}
 
-// The count of bin i where it is at place x and within one scale bin of k, else 0.
-fn votes_there(s: &[i64], n: usize, k: u64, x: u64, i: usize) -> u64
-    requires { Bins s.now n × (i < n) }
-    ensures { result ≡ when (leb (dist k (scale s.now i)) 1 && eqb (place s.now i) x) (votes s.now i) }
-{
-    let scales = abs_diff(k, scale_at(s, n, i));
-    if (scales <= 1) & (place_at(s, n, i) == x) {
-        return votes_at(s, n, i);
+    // The same tally, by a look at every bin for every offset.
+    fn direct_tally(self) -> Tally
+        requires { (self.bins.n ≤ few_bins) × (self.tol ≤ small_tolerance) }
+        ensures { let f = self.entry in result ≡ frame_tally f.bins.s.now f.bins.n f.tol f.i (2 * f.tol + 1) }
+    {
+        let bins = self.bins;
+        let tol = self.tol;
+        let k = bins.scale(self.i);
+        let start = bins.place(self.i) - tol;
+        let low = bins.offset(self.i) - (tol as i64);
+        let mut y = Tally::none();
+        for x in 0..2 * tol + 1 {
+            y = y.with(bins.direct_at(k, start + x), low + (x as i64));
+        }
+        y
     }
-    0
-}
 
-// The sum of the counts at place x, within one scale bin of k.
-fn direct_at(s: &[i64], n: usize, k: u64, x: u64) -> u64
-    requires { Bins s.now n }
-    ensures { result ≡ count_at s.now n k x }
-{
-    let mut sum: u64 = 0;
-    let mut j: usize = 0;
-    while j < n {
-        sum += votes_there(s, n, k, x, j);
-        j += 1;
+    // The tally by whichever way is quicker.
+    fn tally(self) -> Tally
+        ensures { let f = self.entry in result ≡ frame_tally f.bins.s.now f.bins.n f.tol f.i (2 * f.tol + 1) }
+    {
+        if (self.bins.n <= FEW) & (self.tol <= NEAR) {
+            return self.direct_tally();
+        }
+        self.slid_tally()
     }
-    sum
-}
-
-// The same tally, by a look at every bin for every offset within the tolerance.
-fn direct_tally(s: &[i64], n: usize, tol: u64, i: usize) -> Tally
-    requires { Bins s.now n × (tol ≤ 65535) × (i < n) × (n ≤ few_bins) × (tol ≤ small_tolerance) }
-    ensures { result ≡ frame_tally s.now n tol i (2 * tol + 1) }
-{
-    let k = scale_at(s, n, i);
-    let start = place_at(s, n, i) - tol;
-    let low = offset_at(s, n, i) - (tol as i64);
-    let width = 2 * tol + 1;
-    let mut y = Tally {
-        best: 0,
-        count: 0,
-        sum: 0,
-    };
-    let mut x: u64 = 0;
-    while x < width {
-        y = consolidate::tallied(y, direct_at(s, n, k, start + x), low + (x as i64));
-        x += 1;
-    }
-    y
-}
-
-// The tally by whichever way is quicker.
-fn merged_tally(s: &[i64], n: usize, tol: u64, i: usize) -> Tally
-    requires { Bins s.now n × (tol ≤ 65535) × (i < n) }
-    ensures { result ≡ frame_tally s.now n tol i (2 * tol + 1) }
-{
-    if (n <= FEW) & (tol <= NEAR) {
-        return direct_tally(s, n, tol, i);
-    }
-    slid_tally(s, n, tol, i)
 }
 
 // The offset that is reported for a peak at bin i: the mode of its neighbours' counts, merged by
@@ -498,11 +502,9 @@ pub fn panako_peak_offset(s: &[i64], n: usize, tol: u64, i: usize) -> i64
     requires { Bins s.now n × (tol ≤ 65535) × (i < n) }
     ensures { result ≡ peak_offset s.now n tol i }
 {
-    let y = merged_tally(s, n, tol, i);
-    if y.best == 0 {
-        return offset_at(s, n, i);
-    }
-    consolidate::nearest_mean(y.sum, y.count)
+    let bins = Keyed { s, n };
+    let y = Offsets { bins, tol, i }.tally();
+    y.mode().unwrap_or(bins.offset(i))
 }
 
 // ---- for any arguments
@@ -516,55 +518,41 @@ fn rises(s: &[i64], n: usize, i: usize) -> bool
     if n <= next {
         return true;
     }
-    let a = signed::unsigned_abs(consolidate::word_at(s, 3 * i));
-    let b = signed::unsigned_abs(consolidate::word_at(s, 3 * next));
-    let up = signed::is_less(
-        consolidate::word_at(s, 3 * i + 1),
-        consolidate::word_at(s, 3 * next + 1),
-    );
-    (a < b) | ((a == b) & up)
+    let a = s[3 * i].unsigned_abs();
+    let b = s[3 * next].unsigned_abs();
+    (a < b) | ((a == b) & (s[3 * i + 1] < s[3 * next + 1]))
 }
 
 fn bin_ok(s: &[i64], n: usize, i: usize) -> bool
     requires { (i < n) × (3 * n ≤ length s.now) }
     ensures { result ≡ bin_ok s.now n i }
 {
-    let a = consolidate::word_at(s, 3 * i);
-    let d = consolidate::word_at(s, 3 * i + 1);
-    let v = consolidate::word_at(s, 3 * i + 2);
-    let scale_ok = signed::is_natural(a) & (signed::unsigned_abs(a) <= 4095);
-    let close = signed::unsigned_abs(d) <= 549755813888;
-    scale_ok & (close & (signed::is_natural(v) & rises(s, n, i)))
+    let a = s[3 * i];
+    let d = s[3 * i + 1];
+    let v = s[3 * i + 2];
+    let scale_ok = (a >= 0) & (a.unsigned_abs() <= 4095);
+    let close = d.unsigned_abs() <= 549755813888;
+    scale_ok & (close & ((v >= 0) & rises(s, n, i)))
 }
 
 fn all_bins_ok(s: &[i64], n: usize) -> bool
     requires { 3 * n ≤ length s.now }
     ensures { result ≡ every n (bin_ok s.now n) }
 {
-    let mut i = 0;
-    while i < n {
+    for i in 0..n {
         if !bin_ok(s, n, i) {
             return false;
         }
-        i += 1;
     }
     true
 }
 
 // Whether the leaves take the first n bins of s.
+#[tactic(auto, unfolding(crate::specs::Limits::bins_ok))]
 pub fn bins_ok(s: &[i64], n: usize) -> bool
     ensures { result ≡ bins_ok s.now n }
 {
-    if n > 1000000 {
-        return false;
-    }
-    if 3 * n > s.len() {
-        return false;
-    }
-    if !all_bins_ok(s, n) {
-        return false;
-    }
-    consolidate::sum_ok(s, n, 3, 2)
+    (n <= 1000000) && (3 * n <= s.len()) && all_bins_ok(s, n) && consolidate::sum_ok(s, n, 3, 2)
 }
 
 fn answer_of(s: &mut [i64], n: usize, tol: u64) -> Answer
@@ -586,11 +574,7 @@ fn answer_of(s: &mut [i64], n: usize, tol: u64) -> Answer
 fn hough_ok(s: &[i64], n: usize, tol: u64) -> bool
     ensures { result ≡ hough_ok s.now n tol }
 {
-    if n > s.len() / 4 {
-        return false;
-    }
-    let e = 3 * n;
-    (0 < n) & ((tol <= 65535) & bins_ok(&s[..e], n))
+    (n <= s.len() / 4) && (0 < n) && (tol <= 65535) && bins_ok(&s[..3 * n], n)
 }
 
 // The peak, its offset and its prominence, for any arguments: of n bins, whose sums are put behind
