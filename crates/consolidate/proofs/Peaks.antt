@@ -14,7 +14,7 @@ use Rattle.signed.proofs.Sizes.{fits-abs}
 use Rattle.maps.specs.Bins.{offset, votes, place}
 use Rattle.maps.specs.Sums.{sum_to, when}
 use Rattle.std.specs.Prelude.{unwrap_or}
-use Rattle.consolidate.specs.Modes.{mode, mode_or}
+use Rattle.consolidate.specs.Modes.{mode}
 use Rattle.consolidate.specs.Box.{count_of, within, mode_near, peak_over, between, mode_between}
 use Rattle.consolidate.specs.Windows.{withinℕ, window_sum, Passed, Covers}
 use Rattle.consolidate.specs.Sweeping.{Placed, Next, Best, better_of, Swept}
