@@ -1,5 +1,5 @@
 -- Entries merged into words that are zero behind the old entries. Assumes nothing.
-use mathlib.Core.Path.{◌≡◌, refl, sym, ap, ◌∙◌}
+use mathlib.Core.Path.{◌≡◌, refl, sym, ap, ◌∙◌, subst}
 use mathlib.Core.Bool.{true}
 use mathlib.Core.List.{List, [], ◌∷◌, ◌++◌, map, append_assoc, append-nil}
 use Prim.Native.Nat.{ℕ, zero, suc, ◌+◌, ◌*◌, ◌-◌, ◌≤◌, ◌<◌}
@@ -172,6 +172,14 @@ module _ (w p : ℕ) (ps words : List ℕ) (order : List ℤ) (m : ℕ) (overs :
         many = sym (length-place_all (λ e. key_of e) new stay ∙ rw (lr, ← eq));
         result = rw (← len) (merged-padded w q ps1 stay wide-stay eq qroom is1 news r new wide-new news-are lr room);
       }
+
+  -- the same, from what `retain` and `write_news` ensure
+  pub merges : {ps1 news : List ℕ} {q r : ℕ} → q ≡ length (staying w p 0 (take n overs) ps) → ps1 ≡ retained w p 0 (take n overs) ps
+      → r ≡ length (without (w - 1) words (take n overs) (places_in m order)) → 40960 ≤ length news
+      → take ((w - 1 + 1) * r) news ≡ flat (entries_of (w - 1) words id (without (w - 1) words (take n overs) (places_in m order))) → Merge ps1 news q r
+  merges {ps1} {news} {q} {r} eq e1 er big en =
+      merge ps1 news q r eq e1 er big
+      (subst (λ (k : ℕ). take (k * r) news ≡ flat (entries_of (w - 1) words id (without (w - 1) words (take n overs) (places_in m order)))) (width w (omega (arith, P.wide))) en)
 
 -- ---- the stopped keys: entries of one word
 

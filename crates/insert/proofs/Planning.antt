@@ -1,5 +1,5 @@
 -- What `plan_insertion` finds, from what its functions say. Assumes nothing.
-use mathlib.Core.Path.{◌≡◌, refl, sym, ap, ◌∙◌}
+use mathlib.Core.Path.{◌≡◌, refl, sym, ap, ◌∙◌, subst}
 use mathlib.Core.Bool.{true, false, cond}
 use mathlib.Core.List.{List, [], ◌∷◌}
 use Prim.Native.Nat.{ℕ, zero, suc, ◌+◌, ◌-◌, ◌/◌, ◌^◌, ◌≤◌, ◌<◌}
@@ -8,6 +8,7 @@ use lib.IntN.{ℤ}
 use lib.ListN.{length, get_or, take, length-append}
 use lib.Seq.{length-take-le}
 use lib.Dec.{ltb}
+use borrow.Author.Tests.{lt-ltb, le-ltb}
 use Rattle.lists.proofs.Tests.{not-both}
 use Rattle.lists.proofs.Keep.{length-keep}
 use Rattle.sorting.specs.Sort.{sort_z}
@@ -15,7 +16,11 @@ use Rattle.model.specs.Fingerprints.{hash_count}
 use Rattle.postings.specs.Retain.{staying}
 use Rattle.insert_merge.specs.Order.{up_to, unstopped_at, taken, packs, ordered, keys_in, other_keys, ByKey, OverKeys}
 use Rattle.insert_merge.proofs.Ordered.{length-ordered, sort-packs, is-by-key}
-use Rattle.insert.specs.Planned.{Plannable, Planned}
+use Rattle.std.specs.Prelude.{Result, Ok, Err}
+use Rattle.refusals.specs.declared.Refusal.{Refusal}
+use Rattle.refusals.specs.declared.Refusal.TheVariants.{NoPostings, NoStops}
+use Rattle.insert.specs.declared.Plan.{Plan}
+use Rattle.insert.specs.Planned.{Plannable, taken_in, Found, Planned}
 
 -- as many places as hashes, at most
 length-up_to : (n : ℕ) → length (up_to n) ≡ n
@@ -31,10 +36,10 @@ module _ {w p k : ℕ} {ps ss hashes : List ℕ} (A : Plannable w p k ps ss hash
   pub few-new : m ≤ 8192
   few-new = omega (arith, few-taken (w - 1) hashes (take k ss) (hash_count w hashes), A.few)
 
-  -- refusal 6
-  pub planned-six : {limit : ℕ} (id : ℕ) {order : List ℤ} {overs : List ℕ} → ltb (length ps / w) (length (staying w p 1 (id ∷ []) ps) + m) ≡ true
-      → Planned w limit (length ps / w) (length ss) (staying w p 1 (id ∷ []) ps) (take k ss) hashes order overs (record { number = 6; hashes = m; keys = 0 })
-  planned-six id e = record { many = many; number = rw e refl; found = λ q. absurd (not-both e q) }
+  -- there is no room for the postings
+  pub planned-full : {limit : ℕ} (id : ℕ) {order : List ℤ} {overs : List ℕ} → ltb (length ps / w) (length (staying w p 1 (id ∷ []) ps) + m) ≡ true
+      → Planned w limit (length ps / w) (length ss) (staying w p 1 (id ∷ []) ps) (take k ss) hashes order overs (Err NoPostings)
+  planned-full id e = record { full = λ _. refl; fits = λ q. absurd (not-both (rw many at e) q) }
 
   module _ (order₀ order : List ℤ) (held : take m order₀ ≡ packs (w - 1) hashes (taken (w - 1) hashes (take k ss) (hash_count w hashes)))
       (sorted : take m order ≡ sort_z (take m order₀)) (long : 16384 ≤ length order) where
@@ -45,12 +50,21 @@ module _ {w p k : ℕ} {ps ss hashes : List ℕ} (A : Plannable w p k ps ss hash
     by_key word = is-by-key (w - 1) hashes (take k ss) (hash_count w hashes) A.few order m in_order
         (many ∙ sym (length-ordered (w - 1) hashes (take k ss) (hash_count w hashes) A.few)) (omega (arith, few-new)) word
 
-    -- refusal 7, or none
-    pub planned-found : {limit : ℕ} (id : ℕ) (overs : List ℕ) {n number : ℕ} → n ≤ m → 8192 ≤ length overs → OverKeys limit (other_keys w p id ps) (keys_in m order) (take n overs)
-        → ltb (length ps / w) (length (staying w p 1 (id ∷ []) ps) + m) ≡ false → number ≡ cond (ltb (length ss) (k + n)) 7 0
-        → Planned w limit (length ps / w) (length ss) (staying w p 1 (id ∷ []) ps) (take k ss) hashes order overs (record { number = number; hashes = m; keys = n })
-    planned-found id overs few size over e is = record {
-      many = many;
-      number = rw (e, length-take-le k ss A.stopped) is;
-      found = λ _. record { in_order = in_order; above = over; order-room = omega (arith, few-new); overs-room = omega (arith, few-new) };
-    }
+    -- there is none for the keys, or there is room
+    module _ {limit : ℕ} (id : ℕ) (overs : List ℕ) {n : ℕ} (few : n ≤ m) (size : 8192 ≤ length overs) (over : OverKeys limit (other_keys w p id ps) (keys_in m order) (take n overs))
+        (e : ltb (length ps / w) (length (staying w p 1 (id ∷ []) ps) + m) ≡ false) where
+      abbrev Is : Result Plan Refusal → Type 0
+      Is r = Planned w limit (length ps / w) (length ss) (staying w p 1 (id ∷ []) ps) (take k ss) hashes order overs r
+
+      found : Found w limit (staying w p 1 (id ∷ []) ps) (take k ss) hashes order (taken_in w (take k ss) hashes) overs n
+      found = subst (λ (a : ℕ). Found w limit (staying w p 1 (id ∷ []) ps) (take k ss) hashes order a overs n) many
+          record { in_order = in_order; above = over; order-room = omega (arith, few-new); overs-room = omega (arith, few-new) }
+
+      planned : (r : Result Plan Refusal) → r ≡ cond (ltb (length ss) (k + n)) (Err NoStops) (Ok (record { hashes = taken_in w (take k ss) hashes; keys = n })) → Is r
+      planned r is = record { full = λ q. absurd (not-both q (rw many at e)); fits = λ _. (n, found, rw (length-take-le k ss A.stopped) is) }
+
+      pub planned-keys : length ss < k + n → Is (Err NoStops)
+      planned-keys h = planned (Err NoStops) (rw (lt-ltb (length ss) (k + n) h))
+
+      pub planned-found : k + n ≤ length ss → Is (Ok (record { hashes = m; keys = n }))
+      planned-found h = planned (Ok (record { hashes = m; keys = n })) (rw (le-ltb (length ss) (k + n) h, many))

@@ -1,17 +1,17 @@
 -- What a call of insert answers and leaves. Definitions only. Assumes nothing.
-use Rattle.std.specs.Prelude.{◌≡◌, Bool, true, false, ◌&&◌, List, ℕ, ◌-◌, ◌/◌, ◌≤◌, length, get_or, eqb}
+use Rattle.std.specs.Prelude.{◌≡◌, Bool, true, false, ◌&&◌, List, ℕ, ◌-◌, ◌/◌, ◌≤◌, Result, Ok, Err, length, get_or, eqb}
+use Rattle.refusals.specs.declared.Refusal.{Refusal}
+use Rattle.refusals.specs.Numbers.{number_of}
 use Rattle.model.specs.Fingerprints.{malformed, reference_most}
 use Rattle.model.specs.Rows.{is_set}
 use Rattle.model.specs.Calls.{Answer, stored, refused}
 use Rattle.model.specs.Words.{Words, slices_listed, head_width, row_width}
 use Rattle.model.specs.Soundness.{sound_words}
-use Rattle.insert.specs.declared.Insertion.{Insertion}
-use Rattle.insert.specs.declared.Insertion.TheVariants.{Refused, Stored}
 
 -- "Every answer is a case: .. stored with an id .. or refused with a number."
-abbrev pub insertion_answer : Insertion → Answer
-insertion_answer (Refused n) = refused n
-insertion_answer (Stored id) = stored id
+abbrev pub insertion_answer : Result ℕ Refusal → Answer
+insertion_answer (Ok id) = stored id
+insertion_answer (Err r) = refused (number_of r)
 
 -- refusal 5: "v = 0 and n = R"
 unfoldable pub no_row : List ℕ → Bool

@@ -1,8 +1,10 @@
 -- What an insertion would do, found before a word is written. Definitions only. Assumes nothing.
-use Rattle.std.specs.Prelude.{◌≡◌, true, false, cond, List, map, ℕ, ◌+◌, ◌*◌, ◌-◌, ◌/◌, ◌≤◌, ℤ, length, get_or, take, ltb}
+use Rattle.std.specs.Prelude.{◌≡◌, true, false, cond, List, map, ℕ, ◌+◌, ◌*◌, ◌-◌, ◌/◌, ◌≤◌, ℤ, Result, Ok, Err, length, get_or, take, ltb}
 use Rattle.lists.specs.Keys.{Ascending}
 use Rattle.lists.specs.Entries.{entries, key_of, keys_ascend}
 use Rattle.model.specs.Fingerprints.{hash_count}
+use Rattle.refusals.specs.declared.Refusal.{Refusal}
+use Rattle.refusals.specs.declared.Refusal.TheVariants.{NoPostings, NoStops}
 use Rattle.model.specs.Words.{Words}
 use Rattle.insert_merge.specs.Order.{taken, packs, ordered, keys_in, OverKeys}
 use Rattle.insert.specs.declared.Plan.{Plan}
@@ -23,14 +25,19 @@ pub record Found (w limit : ℕ) (old : List (List ℕ)) (stopped hashes : List 
   pub order-room : m ≤ length order
   pub overs-room : n ≤ length overs
 
+-- how many hashes are not skipped
+abbrev pub taken_in : ℕ → List ℕ → List ℕ → ℕ
+taken_in w stopped hashes = length (taken (w - 1) hashes stopped (hash_count w hashes))
+
 -- a plan with room for P postings and K stopped keys, of which `old` and `stopped` are in use: "p + m > P", "stopped
 -- keys after the call would exceed K"
-pub record Planned (w limit P K : ℕ) (old : List (List ℕ)) (stopped hashes : List ℕ) (order : List ℤ) (overs : List ℕ) (r : Plan) : Type 0 where
-  pub many : r.hashes ≡ length (taken (w - 1) hashes stopped (hash_count w hashes))
-  pub number : r.number ≡ cond (ltb P (length old + r.hashes)) 6 (cond (ltb K (length stopped + r.keys)) 7 0)
-  pub found : ltb P (length old + r.hashes) ≡ false → Found w limit old stopped hashes order r.hashes overs r.keys
+pub record Planned (w limit P K : ℕ) (old : List (List ℕ)) (stopped hashes : List ℕ) (order : List ℤ) (overs : List ℕ) (r : Result Plan Refusal) : Type 0 where
+  pub full : ltb P (length old + taken_in w stopped hashes) ≡ true → r ≡ Err NoPostings
+  pub fits : ltb P (length old + taken_in w stopped hashes) ≡ false →
+      (n : ℕ) × Found w limit old stopped hashes order (taken_in w stopped hashes) overs n
+      × (r ≡ cond (ltb K (length stopped + n)) (Err NoStops) (Ok (record { hashes = taken_in w stopped hashes; keys = n })))
 
 -- on a store as it is
-abbrev pub PlannedIn : ℕ → ℕ → Words → List ℕ → List ℤ → List ℕ → Plan → Type 0
+abbrev pub PlannedIn : ℕ → ℕ → Words → List ℕ → List ℤ → List ℕ → Result Plan Refusal → Type 0
 PlannedIn w limit m hashes order overs r =
     Planned w limit (length m.postings / w) (length m.stopped) (entries w (get_or m.references 2 0) m.postings) (take (get_or m.references 3 0) m.stopped) hashes order overs r

@@ -17,18 +17,12 @@ ghost use Rattle.insert.specs.Writing.{Placing, placed_entries, Stopping, record
 ghost use Rattle.insert.specs.Planned.{Plannable, Planned};
 ghost use Rattle.insert.specs.Insert.{insertion_answer, Ready, no_row};
 
+use refusals::Refusal;
 use rows::{Counts, Row};
-use slices::size;
+use soundness::Store;
 
-// "stored with an id", or "refused with a number".
-#[derive(Clone, Copy)]
-pub enum Insertion {
-    Refused(u32),
-    Stored(u32),
-}
-
-// The first p entries, less those of the first n keys of overs, with the hashes at the places in order placed among them, less those of
-// such keys, as entries of recording id; how many there are. The new entries are laid out in `news` first.
+// The first p entries, less those of the keys in overs, with the hashes at the places in order placed among them, less those of such keys,
+// as entries of recording id; how many there are. The new entries are laid out in `news` first.
 fn place_news(
     posts: &mut [u32],
     w: usize,
@@ -36,28 +30,35 @@ fn place_news(
     hashes: &[u32],
     id: u32,
     order: &[i64],
-    m: usize,
     overs: &[u32],
-    n: usize,
     news: &mut [u32],
 ) -> usize
-    requires { Placing w p posts.old hashes.now order.now m overs.now n × (40960 ≤ length news.old) }
-    ensures value { result ≡ length (placed_entries w p posts.old hashes.now id (places_in m order.now) (take n overs.now)) }
+    requires { Placing w p posts.old hashes.now order.now (length order.now) overs.now (length overs.now) × (40960 ≤ length news.old) }
+    ensures value { result ≡ length (placed_entries w p posts.old hashes.now id (places_in (length order.now) order.now) (take (length overs.now) overs.now)) }
     ensures posts_after { posts.new ≡ padded (length posts.old)
-        (flat (placed_entries w p posts.old hashes.now id (places_in m order.now) (take n overs.now))) }
+        (flat (placed_entries w p posts.old hashes.now id (places_in (length order.now) order.now) (take (length overs.now) overs.now))) }
 {
-    let r = insert_merge::write_news(news, order, m, hashes, w - 1, id, overs, n);
-    let q = postings::retain(posts, w, p, 0, overs, n, overs, 0);
+    let r = insert_merge::write_news(
+        news,
+        order,
+        order.len(),
+        hashes,
+        w - 1,
+        id,
+        overs,
+        overs.len(),
+    );
+    let q = postings::retain(posts, w, p, 0, overs, overs.len(), overs, 0);
     insert_merge::merge_in(posts, w, q, news, r);
     q + r
 }
 
-// The first n keys of overs are placed among the first k of stops.
-fn stop_keys(stops: &mut [u32], k: usize, overs: &[u32], n: usize)
-    requires { Stopping stops.old k overs.now n }
-    ensures { stops.new ≡ padded (length stops.old) (place_all (λ x. x) (take n overs.now) (take k stops.old)) }
+// The keys in overs are placed among the first k of stops.
+fn stop_keys(stops: &mut [u32], k: usize, overs: &[u32])
+    requires { Stopping stops.old k overs.now (length overs.now) }
+    ensures { stops.new ≡ padded (length stops.old) (place_all (λ x. x) (take (length overs.now) overs.now) (take k stops.old)) }
 {
-    insert_merge::merge_in(stops, 1, k, overs, n);
+    insert_merge::merge_in(stops, 1, k, overs, overs.len());
 }
 
 // The id of a new recording, from what is in use.
@@ -68,10 +69,11 @@ fn new_id(refs: &[u32], c: Counts) -> usize
     if c.vacant == 0 {
         return c.rows;
     }
-    size(rows::row_word(refs, c.vacant - 1, rows::AT_VACANT))
+    rows::row_word(refs, c.vacant - 1, rows::AT_VACANT) as usize
 }
 
 // Recording id is written into the references, from what is in use; p postings and k stopped keys are left.
+#[tactic(auto, using(std::proofs::lemmas::Bool::Decides::nat_tests), unfolding(crate::specs::Writing::recorded))]
 fn put_recording(refs: &mut [u32], c: Counts, id: usize, row: Row, p: usize, k: usize)
     requires { Recording refs.old c.rows c.vacant id p k }
     ensures { refs.new ≡ recorded refs.old c.rows c.vacant id row.rate row.rmax row.set p k }
@@ -88,15 +90,14 @@ fn put_recording(refs: &mut [u32], c: Counts, id: usize, row: Row, p: usize, k: 
     }
 }
 
-// What an insertion would do: the number it is refused by, 0 where it is not; how many hashes are not skipped, and how many keys are stopped.
+// What an insertion would do: how many hashes are not skipped, and how many keys are stopped.
 #[derive(Clone, Copy)]
 pub struct Plan {
-    pub number: u32,
     pub hashes: usize,
     pub keys: usize,
 }
 
-// Writes a recording that is accepted; its id.
+// Writes a recording that is accepted: the hashes at the places in order, and the keys in overs are stopped; its id.
 pub fn write_recording(
     refs: &mut [u32],
     posts: &mut [u32],
@@ -107,41 +108,34 @@ pub fn write_recording(
     set: u32,
     order: &[i64],
     overs: &[u32],
-    plan: Plan,
     news: &mut [u32],
 ) -> u32
-    requires { Writable w refs.old posts.old stops.old hashes.now order.now plan.hashes overs.now plan.keys × (40960 ≤ length news.old) }
+    requires { Writable w refs.old posts.old stops.old hashes.now order.now (length order.now) overs.now (length overs.now) × (40960 ≤ length news.old) }
     ensures value { result ≡ id_in refs.old }
     ensures refs_after { refs.new ≡ recorded refs.old (get_or refs.old 0 0) (get_or refs.old 1 0) (id_in refs.old) (canonical rate)
         (cond (has_rmax w) (largest_anchor (hashes_of w hashes.now)) 0) set
-        (length (postings_in w refs.old posts.old hashes.now order.now plan.hashes overs.now plan.keys)) (get_or refs.old 3 0 + plan.keys) }
+        (length (postings_in w refs.old posts.old hashes.now order.now (length order.now) overs.now (length overs.now))) (get_or refs.old 3 0 + length overs.now) }
     ensures posts_after { posts.new ≡ padded (length posts.old)
-        (flat (postings_in w refs.old posts.old hashes.now order.now plan.hashes overs.now plan.keys)) }
-    ensures stops_after { stops.new ≡ padded (length stops.old) (place_all (λ x. x) (take plan.keys overs.now) (take (get_or refs.old 3 0) stops.old)) }
+        (flat (postings_in w refs.old posts.old hashes.now order.now (length order.now) overs.now (length overs.now))) }
+    ensures stops_after { stops.new ≡ padded (length stops.old) (place_all (λ x. x) (take (length overs.now) overs.now) (take (get_or refs.old 3 0) stops.old)) }
 {
     let h = rows::header(refs);
-    let k = h.stopped;
-    let m = plan.hashes;
-    let n = plan.keys;
     let id = new_id(refs, h);
-    let q = place_news(
-        posts, w, h.postings, hashes, id as u32, order, m, overs, n, news,
-    );
-    stop_keys(stops, k, overs, n);
-    put_recording(refs, h, id, rows::row_of(hashes, w, rate, set), q, k + n);
+    let q = place_news(posts, w, h.postings, hashes, id as u32, order, overs, news);
+    stop_keys(stops, h.stopped, overs);
+    let row = rows::row_of(hashes, w, rate, set);
+    put_recording(refs, h, id, row, q, h.stopped + overs.len());
     id as u32
 }
 
 // Whether there is neither a vacant id nor a row that is not in use.
+#[tactic(auto, using(std::proofs::lemmas::Bool::Decides::nat_tests), unfolding(crate::specs::Insert::no_row))]
 fn is_full(refs: &[u32]) -> bool
     requires { head_width ≤ length refs.now }
     ensures { result ≡ no_row refs.now }
 {
     let h = rows::header(refs);
-    if h.vacant != 0 {
-        return false;
-    }
-    h.rows == (refs.len() - rows::HEAD_WIDTH) / rows::ROW_WIDTH
+    h.vacant == 0 && h.rows == (refs.len() - rows::HEAD_WIDTH) / rows::ROW_WIDTH
 }
 
 // Whether m more postings do not fit beside so many others.
@@ -152,18 +146,8 @@ fn lacks_room(posts: &[u32], w: usize, others: usize, m: usize) -> bool
     posts.len() / w < others + m
 }
 
-// 7 where so many stopped keys do not fit, else 0.
-fn keys_refusal(room: usize, keys: usize) -> u32
-    ensures { result ≡ cond (ltb room keys) 7 0 }
-{
-    if room < keys {
-        return 7;
-    }
-    0
-}
-
-// Plans an insertion into a store in which so much is in use, less the postings of recording id, beside which there are so many others: refusals 6
-// and 7, the hashes that are not skipped, in order, and the keys that it stops.
+// Plans an insertion into a store in which so much is in use, less the postings of recording id, beside which there are so many others: whether
+// there is room, the hashes that are not skipped, in order, and the keys that it stops.
 pub fn plan_insertion(
     order: &mut [i64],
     overs: &mut [u32],
@@ -175,7 +159,7 @@ pub fn plan_insertion(
     id: u32,
     others: usize,
     limit: u32,
-) -> Plan
+) -> Result<Plan, Refusal>
     requires plannable { Plannable w c.postings c.stopped posts.now stops.now hashes.now }
     requires others_value { others ≡ length (staying w c.postings 1 (id ∷ []) posts.now) }
     requires in_bounds { (16384 ≤ length order.old) × (8192 ≤ length overs.old) }
@@ -187,19 +171,14 @@ pub fn plan_insertion(
     let v = w - 1;
     let m = insert_merge::collect(order, hashes, v, hashes.len() / v, stops, k);
     if lacks_room(posts, w, others, m) {
-        return Plan {
-            number: 6,
-            hashes: m,
-            keys: 0,
-        };
+        return Err(Refusal::NoPostings);
     }
     sorting::sort_words(order, m);
     let n = insert_merge::over_keys(overs, order, m, posts, w, p, limit, id);
-    Plan {
-        number: keys_refusal(stops.len(), k + n),
-        hashes: m,
-        keys: n,
+    if stops.len() < k + n {
+        return Err(Refusal::NoStops);
     }
+    Ok(Plan { hashes: m, keys: n })
 }
 
 // An insertion into a sound store that has a row left, of a fingerprint that is well formed, under a set that is allowed.
@@ -212,7 +191,7 @@ fn admit(
     rate: u32,
     limit: u32,
     set: u32,
-) -> Insertion
+) -> Result<u32, Refusal>
     requires { Ready w (words refs.old posts.old stops.old) hashes.now set }
     ensures { (insertion_answer result, words refs.new posts.new stops.new)
         ≡ run_insert w (words refs.old posts.old stops.old) limit rate set hashes.now }
@@ -221,7 +200,7 @@ fn admit(
     let mut order = [0i64; 16384];
     let mut overs = [0u32; 8192];
     // no posting has the number of rows as its id
-    let r = plan_insertion(
+    let plan = plan_insertion(
         &mut order,
         &mut overs,
         hashes,
@@ -232,17 +211,25 @@ fn admit(
         h.rows as u32,
         h.postings,
         limit,
-    );
-    if r.number != 0 {
-        return Insertion::Refused(r.number);
-    }
+    )?;
     let mut news = [0u32; 40960];
-    Insertion::Stored(write_recording(
-        refs, posts, stops, hashes, w, rate, set, &order, &overs, r, &mut news,
+    Ok(write_recording(
+        refs,
+        posts,
+        stops,
+        hashes,
+        w,
+        rate,
+        set,
+        &order[..plan.hashes],
+        &overs[..plan.keys],
+        &mut news,
     ))
 }
 
 // Inserts a recording of a set with the hashes of a fingerprint, w - 1 words each. A key that then has more postings than the limit is stopped.
+// The three slices stay three parameters here and below: of a struct that holds a `&mut`, each function that takes it has to promise for each
+// field that it still holds the same reference, and to speak of its words by way of that promise.
 pub fn insert(
     refs: &mut [u32],
     posts: &mut [u32],
@@ -252,23 +239,26 @@ pub fn insert(
     rate: u32,
     limit: u32,
     set: u32,
-) -> Insertion
+) -> Result<u32, Refusal>
     requires { (3 ≤ w) × (w ≤ 5) }
     ensures { (insertion_answer result, words refs.new posts.new stops.new)
         ≡ run_insert w (words refs.old posts.old stops.old) limit rate set hashes.now }
 {
-    let n = soundness::refusal_of(refs, posts, stops, w);
-    if n != 0 {
-        return Insertion::Refused(n);
-    }
+    let store = Store {
+        refs,
+        posts,
+        stops,
+        width: w,
+    };
+    store.refusal()?;
     if rows::is_malformed(hashes, w, 8192) {
-        return Insertion::Refused(3);
+        return Err(Refusal::Malformed);
     }
     if !rows::is_set(set) {
-        return Insertion::Refused(9);
+        return Err(Refusal::Set);
     }
     if is_full(refs) {
-        return Insertion::Refused(5);
+        return Err(Refusal::NoRow);
     }
     admit(refs, posts, stops, hashes, w, rate, limit, set)
 }
