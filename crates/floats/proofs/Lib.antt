@@ -5,8 +5,5 @@ pub mod Assembled
 pub mod Exactly
 pub mod Away
 pub mod Whole
-pub mod Narrow
 pub mod Numbers
-pub mod Patterns
-pub mod Signs
 pub mod Order

@@ -1,5 +1,6 @@
--- The library's words for `abs` and a rounded cast, as `specs/` defines them. Assumes nothing.
-use Rattle.std.proofs.Common.{◌≡◌, false, refl}
+-- The library's words for `abs`, a rounded cast and a flag as a number, as `specs/` and `proofs/` have them. Assumes nothing.
+use Rattle.std.proofs.Common.{◌≡◌, Bool, true, false, cond, refl}
+use mir.Val.{bool_byte}
 use lib.Ieee.{Float, nan, inf, fin, binary32}
 use Rattle.std.specs.Float.{float_with_sign, round_to_format}
 use Rattle.floats.specs.Rounding.{narrow}
@@ -16,3 +17,7 @@ unfolding round_to_format narrow
 rounded-narrow nan = refl
 rounded-narrow (inf s) = refl
 rounded-narrow (fin s m e) = refl
+
+pub flag-is : (b : Bool) → bool_byte b ≡ cond b 1 0
+flag-is true = refl
+flag-is false = refl

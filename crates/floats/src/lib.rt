@@ -28,7 +28,7 @@ fn nearest_part(n: u64, cut: u32) -> u64
 pub fn u64_to_f32(n: u64) -> f32
     ensures { result ≡ Ieee.of_int binary32 (pos n) }
 {
-    let zeros: u32 = u64::leading_zeros(n);
+    let zeros = n.leading_zeros();
     if zeros >= 40 {
         return (n as u32) as f32;
     }
@@ -53,10 +53,10 @@ pub fn round_to_i64(x: f64) -> i64
     ensures { result ≡ Rounding.round_to_i64 x }
 {
     if x >= 9223372036854775808.0 {
-        return 9223372036854775807;
+        return i64::MAX;
     }
     if x <= -9223372036854775808.0 {
-        return -9223372036854775808;
+        return i64::MIN;
     }
     if x > 0.0 {
         return half_up(x) as i64;
@@ -85,15 +85,9 @@ fn nearest_whole(x: f64) -> Nearest
 {
     let sum: f64 = x + 4503599627370496.0;
     Nearest {
-        n: f64::to_bits(sum) % 0x10_0000_0000_0000,
+        n: sum.to_bits() % 0x10_0000_0000_0000,
         float: sum - 4503599627370496.0,
     }
-}
-
-fn one_if(b: bool) -> u64
-    ensures { result ≡ (if b then 1 else 0) }
-{
-    if b { 1 } else { 0 }
 }
 
 // Rust's `x as u64` for x in 0 .. 2^51, with no branch.
@@ -103,7 +97,7 @@ pub fn small_whole_part(x: f64) -> u64
     ensures { result ≡ Ieee.to_unsigned 64 x }
 {
     let near = nearest_whole(x);
-    near.n - one_if(x < near.float)
+    near.n - u64::from(x < near.float)
 }
 
 // x in 0 .. 2^51 to the nearest whole number, halves up, with no branch.
@@ -113,10 +107,10 @@ fn small_half_up(x: f64) -> u64
     ensures { result ≡ Rounding.half_up (num x) (den x) }
 {
     let near = nearest_whole(x);
-    near.n + one_if(x >= near.float + 0.5)
+    near.n + u64::from(x >= near.float + 0.5)
 }
 
-// x with its sign cleared; a zero keeps its own.
+// x with its sign cleared; a zero keeps its own, where the library's `abs` has one more test for it.
 fn magnitude(x: f64) -> f64
     ensures { result ≡ (if Ieee.lt x (fin false 0 (pos 0)) then Ieee.neg x else x) }
 {
@@ -133,22 +127,19 @@ pub fn round_small_to_i64(x: f64) -> i64
     if x < 0.0 { 0 - n } else { n }
 }
 
-// Rust's `x as f32` in 0.5 .. 2: the nearest `f32`, ties to even. x * 2^53 is a whole number, so the
-// rounding is that of `u64_to_f32`, and the power of two is taken off exactly.
+// Rust's `x as f32`: the nearest `f32`, ties to even.
 pub fn f64_to_f32(x: f64) -> f32
-    requires fact_1 { T (Ieee.le (fin false 1 (negsuc 0)) x) }
-    requires fact_2 { T (Ieee.le x (fin false 1 (pos 1))) }
     ensures { result ≡ Rounding.narrow x }
 {
-    let whole: u64 = std::num::truncating_f64_to_u64(x * 9007199254740992.0);
-    u64_to_f32(whole) * 1.1102230246251565e-16
+    std::num::nearest_f64_to_f32_with_nan(x)
 }
 
-// Rust's `a.max(b)`: a NaN gives way to the other.
+// Rust's `a.max(b)`: a NaN gives way to the other, and of two that are equal it is a. The library's `max` may give either,
+// which is told apart where they are 0 and -0.
 pub fn max_f32(a: f32, b: f32) -> f32
     ensures { result ≡ Selection.maximum a b }
 {
-    if a != a {
+    if a.is_nan() {
         return b;
     }
     if a < b { b } else { a }
@@ -158,23 +149,18 @@ pub fn max_f32(a: f32, b: f32) -> f32
 pub fn abs_f32(x: f32) -> f32
     ensures { result ≡ Selection.abs x }
 {
-    if x == 0.0 {
-        return 0.0;
-    }
-    if x < 0.0 { -x } else { x }
+    x.abs()
 }
 
 // The same of an `f64`.
 pub fn abs_f64(x: f64) -> f64
     ensures { result ≡ Selection.abs x }
 {
-    if x == 0.0 {
-        return 0.0;
-    }
-    if x < 0.0 { -x } else { x }
+    x.abs()
 }
 
-// Rust's `x.clamp(lo, hi)`, for lo at most hi: a NaN stays.
+// Rust's `x.clamp(lo, hi)`, but of any two ends, as the C interface hands them over: the library's asks for lo at most hi.
+// A NaN stays.
 pub fn clamp_f32(x: f32, lo: f32, hi: f32) -> f32
     ensures { result ≡ Selection.clamp lo hi x }
 {
@@ -198,41 +184,29 @@ pub fn clamp_f64(x: f64, lo: f64, hi: f64) -> f64
 pub fn f32_from_bits(word: u32) -> f32
     ensures { result ≡ Ieee.of_bits binary32 word }
 {
-    if word % 0x8000_0000 > 0x7F80_0000 {
-        return 0.0 / 0.0;
-    }
-    f32::from_bits(word)
+    std::num::f32_from_bits_with_nan(word)
 }
 
 // The same of an `f64`.
 pub fn f64_from_bits(word: u64) -> f64
     ensures { result ≡ Ieee.of_bits binary64 word }
 {
-    if word % 0x8000_0000_0000_0000 > 0x7FF0_0000_0000_0000 {
-        return 0.0 / 0.0;
-    }
-    f64::from_bits(word)
+    std::num::f64_from_bits_with_nan(word)
 }
 
 // The one bit pattern that is written for a NaN.
 pub const NAN_BITS: u32 = 0x7FC0_0000;
 
-// The bit pattern of a float.
+// The bit pattern of a float: `NAN_BITS` of a NaN.
 pub fn f32_to_bits(x: f32) -> u32
     ensures { result ≡ Ieee.to_bits binary32 x }
 {
-    if x != x {
-        return NAN_BITS;
-    }
-    f32::to_bits(x)
+    std::num::f32_to_bits_with_nan(x)
 }
 
 // The same of an `f64`: of a NaN 7FF8000000000000, hexadecimal.
 pub fn f64_to_bits(x: f64) -> u64
     ensures { result ≡ Ieee.to_bits binary64 x }
 {
-    if x != x {
-        return 0x7FF8_0000_0000_0000;
-    }
-    f64::to_bits(x)
+    std::num::f64_to_bits_with_nan(x)
 }

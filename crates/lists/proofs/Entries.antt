@@ -15,7 +15,7 @@ use Rattle.lists.specs.Lists.{keep, All, flat}
 use Rattle.lists.specs.Every.{every}
 use Rattle.lists.specs.Keys.{Sorted}
 use Rattle.lists.specs.Entries.{entries, entry_at, key_of, key_at, keys_ascend, Wide, zero_word, zero_from, padded}
-use Rattle.lists.proofs.Tests.{test, le-or-lt}
+use Rattle.lists.proofs.Tests.{le-or-lt}
 use Rattle.lists.proofs.Every.{every-at, every-make}
 use Rattle.lists.proofs.Keep.{keep_append, keep_one, flat_append, flat-one, all-make, all-at}
 use Rattle.lists.proofs.Place.{sorted-make, sorted-at}

@@ -1,10 +1,9 @@
 -- Signed words. A signed local holds bits: what is read of it is `word z`, which is z where z fits. Assumes nothing.
 use mathlib.Core.Path.{◌≡◌, refl, ap, ◌∙◌}
-use mathlib.Core.Bool.{true, false}
+use mathlib.Core.Bool.{true}
 use mathlib.Core.List.{List, [], ◌∷◌, map}
-use Prim.Native.Nat.{ℕ, zero, suc, ◌<◌, ◌≤◌, ◌^◌, zero-le}
+use Prim.Native.Nat.{ℕ, zero, suc, ◌<◌, ◌≤◌, ◌^◌}
 use native.Mathlib.Omega.{arith}
-use borrow.Author.Tests.{le-leb}
 use lib.Dec.{T}
 use lib.IntN.{ℤ, pos, negsuc, nat_abs}
 use lib.Signed.{le_z, mag, non_neg}
@@ -38,10 +37,6 @@ natural-fits (negsuc n) h t = let e : ◌≡◌ {A = ℕ} 0 1 = cc in absurd (om
 pub natural-is : (z : ℤ) → mag z < 2 ^ 63 → le_z (pos 0) z ≡ true → (nat_abs z ≡ nat_of z) × (nat_abs z < 2 ^ 63)
 natural-is (pos n) h t = (refl, h)
 natural-is (negsuc n) h t = let e : ◌≡◌ {A = ℕ} 0 1 = cc in absurd (omega arith)
-
-pub natural-none : (z : ℤ) → le_z (pos 0) z ≡ false → ◌≡◌ {A = ℕ} 0 (nat_of z)
-natural-none (pos n) t = let e : ◌≡◌ {A = ℕ} 0 1 = cc (le-leb 0 n zero-le) in absurd (omega arith)
-natural-none (negsuc n) t = refl
 
 -- words that hold numbers: what `word_at` reads of them, and what `put_word` leaves
 pub word-pos : (ns : List ℕ) (i : ℕ) → nat_of (get_or (map pos ns) i (pos 0)) ≡ get_or ns i 0

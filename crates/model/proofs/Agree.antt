@@ -16,7 +16,7 @@ use Rattle.lists.proofs.Place.{under-keep, under-place_all, sorted-keep, sorted-
 use Rattle.model.specs.Fingerprints.{Hash}
 use Rattle.model.specs.Rows.{Row}
 use Rattle.model.specs.Index.{Posting, Index, key_of, of_id, is_live, exceeds, unskipped, is_stopped, placed, postings_after, stopped_after}
-use Rattle.model.specs.Query.{Scheme, Query, Catalog, catalog, asked, voting, hashes, gather, votes, candidate, best_below, best_of, too_many_votes}
+use Rattle.model.specs.Query.{Scheme, Query, Catalog, catalog, asked, voting, hashes, gather, candidate, best_below, best_of, too_many_votes}
 use Rattle.model.specs.History.{arrived, held_after, stops_after}
 use Rattle.model.proofs.Best.{best-ext}
 use Rattle.model.proofs.Parts.{member-stop_keys, clean-without}

@@ -14,7 +14,7 @@ use Rattle.lists.proofs.Keep.{keep-comm, keep_all, all-kept, all-imp}
 use Rattle.matching.specs.declared.MatchResult.{MatchResult}
 use Rattle.model.specs.Rows.{Row, in_set, row_of}
 use Rattle.model.specs.Index.{Posting, Index, of_id, is_live}
-use Rattle.model.specs.Query.{Scheme, Query, Catalog, catalog, asked, voting, votes, candidate, best_of, too_many_votes}
+use Rattle.model.specs.Query.{Scheme, Query, Catalog, catalog, asked, voting, candidate, best_of, too_many_votes}
 use Rattle.model.specs.Calls.{Sizes, Store, holds, Answer, best, stored, Call, insert, query, outcome, answer_of, early_tests, query_tests, query_step, refusal, step}
 use Rattle.model.specs.Words.{Words, sizes_of}
 use Rattle.model.specs.Run.{run}

@@ -14,7 +14,7 @@ use Rattle.lists.specs.Lists.{All}
 use Rattle.lists.specs.Every.{count}
 use Rattle.lists.specs.Entries.{entries, entry_at, key_of as first_word}
 use Rattle.lists.specs.Keys.{Sorted}
-use Rattle.lists.proofs.Tests.{test, not-both, and_left, and_right, or_else, le-or-lt}
+use Rattle.lists.proofs.Tests.{not-both, and_left, and_right, or_else, le-or-lt}
 use Rattle.lists.proofs.Every.{count_same}
 use Rattle.lists.proofs.Keep.{length-keep, none_pass, all-at, all-imp, all_map, count-keep}
 use Rattle.lists.proofs.Place.{sorted-map}

@@ -8,11 +8,7 @@ ghost use Rattle.std.specs.Int.Signed.{non_neg, le_z, lt_z};
 pub fn unsigned_abs(x: i64) -> u64
     ensures { result ≡ nat_abs x }
 {
-    if x < 0 {
-        let below = 0 - (x + 1);
-        return below as u64 + 1;
-    }
-    x as u64
+    x.unsigned_abs()
 }
 
 pub fn is_natural(x: i64) -> bool

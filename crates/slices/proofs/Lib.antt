@@ -1,4 +1,3 @@
 -- Laws that belong to no one function.
 pub mod Pasted
 pub mod Moved
-pub mod Cleared

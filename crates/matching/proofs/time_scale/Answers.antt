@@ -3,18 +3,12 @@ use Rattle.std.proofs.Common.{sym, ap, ◌∙◌}
 use lib.Ieee.{Float, le, lt, of_bits}
 use Rattle.floats.proofs.Library.{signless-abs}
 use Rattle.matching.specs.Scales.{tiny}
-use Rattle.matching.proofs.Scales.{small, inverse, held}
+use Rattle.matching.proofs.Scales.{small, held}
 use Rattle.matching.proofs.time_scale.Goals as goal
 
 pub clamp-requires : goal.clamp-requires
 unfolding of_bits le
 clamp-requires c = tt
-
-pub f64_to_f32-requires : goal.f64_to_f32-requires
-unfolding of_bits
-f64_to_f32-requires c =
-    let w = c.clamp.ensures.bound (inverse c.args.c (sym (ap (λ (z : Float). lt tiny z) (c.abs.ensures.value ∙ signless-abs c.args.c)) ∙ c.if-abs.true)) in
-    record { fact_1 = w.0; fact_2 = w.1 }
 
 pub returns-then-abs : goal.returns-then-abs
 unfolding of_bits
