@@ -8,7 +8,7 @@ use native.Mathlib.Omega.{arith}
 use lib.Dec.{eqb}
 use lib.IntN.{ℤ, pos}
 use lib.ListN.{length, get_or, take, drop, length-map, take-append-drop}
-use lib.Seq.{take-suc, drop-cons, get_or-take, length-take-le}
+use lib.Seq.{take-suc, drop-cons}
 use Rattle.lists.specs.Lists.{All}
 use Rattle.lists.specs.Keys.{Sorted}
 use Rattle.maps.specs.Words.{nat_of}
@@ -17,11 +17,11 @@ use Rattle.build_stops.specs.Over.{key_in, Counted}
 use Rattle.build_stops.proofs.Over.{counted-more}
 
 -- word t of a buffer
-pub word-is : (buf : List ℤ) (n : ℕ) (cs : List ℕ) (t : ℕ) → take n buf ≡ map pos cs → t < n → nat_of (get_or buf t (pos 0)) ≡ get_or cs t 0
-word-is buf n cs t e h = ap nat_of (sym (get_or-take n buf t (pos 0) h)) ∙ ap (λ l. nat_of (get_or l t (pos 0))) e ∙ word-pos cs t
+pub word-is : (buf : List ℤ) (cs : List ℕ) (t : ℕ) → buf ≡ map pos cs → nat_of (get_or buf t (pos 0)) ≡ get_or cs t 0
+word-is buf cs t e = ap (λ l. nat_of (get_or l t (pos 0))) e ∙ word-pos cs t
 
-pub words-many : (buf : List ℤ) (n : ℕ) (cs : List ℕ) → take n buf ≡ map pos cs → n ≤ length buf → length cs ≡ n
-words-many buf n cs e h = sym (length-map cs pos) ∙ ap length (sym e) ∙ length-take-le n buf h
+pub words-many : (buf : List ℤ) (cs : List ℕ) → buf ≡ map pos cs → length cs ≡ length buf
+words-many buf cs e = sym (length-map cs pos) ∙ ap length (sym e)
 
 sorted_before : (a : List ℕ) (x : ℕ) (b : List ℕ) → Sorted (λ k. k) (a ++ x ∷ b) → All (λ y. y ≤ x) a
 sorted_before [] x b h = tt
@@ -48,16 +48,20 @@ module _ (l cs : List ℕ) (t : ℕ) (h : t < length cs) where
       sorted_before (l ++ map key_in (take t cs)) x (map key_in (drop (suc t) cs)) (rw (append_assoc l (map key_in (take t cs)) (x ∷ map key_in (drop (suc t) cs)), ← split) s)
 
 -- a turn of the walk
-pub count_turn : (limit : ℕ) (buf : List ℤ) (n : ℕ) (l cs : List ℕ) (t key run many k run' hit : ℕ) → n ≤ length buf → take n buf ≡ map pos cs → t < n
+pub count_turn : (limit : ℕ) (buf : List ℤ) (l cs : List ℕ) (t key run many k run' hit : ℕ) → buf ≡ map pos cs → t < length buf
     → Sorted (λ k. k) (l ++ map key_in cs) → k ≡ key_in (nat_of (get_or buf t (pos 0)))
     → run' ≡ cond (eqb k key) (run + 1) 1 → hit ≡ cond (eqb run' (limit + 1)) 1 0
     → Counted limit (l ++ map key_in (take t cs)) key run many → Counted limit (l ++ map key_in (take (t + 1) cs)) k run' (many + hit)
-count_turn limit buf n l cs t key run many k run' hit room e h s ek er eh c =
-    let lt : t < length cs = omega (arith, words-many buf n cs e room) in
-    let kk : k ≡ key_in (get_or cs t 0) = ek ∙ ap key_in (word-is buf n cs t e h) in
+count_turn limit buf l cs t key run many k run' hit e h s ek er eh c =
+    let lt : t < length cs = omega (arith, words-many buf cs e) in
+    let kk : k ≡ key_in (get_or cs t 0) = ek ∙ ap key_in (word-is buf cs t e) in
     rw (keys-more l cs t lt, ← kk)
     (counted-more limit (l ++ map key_in (take t cs)) key run many k run' (many + hit) c (rw (← kk) at (keys-before l cs t lt s)) er (ap (λ n. many + n) eh))
 
 pub next_le : (run : ℕ) (b : Bool) → cond b (run + 1) 1 ≤ run + 1
 next_le run true = omega arith
 next_le run false = omega arith
+
+pub hit_le : (b : Bool) → cond b 1 0 ≤ 1
+hit_le true = omega arith
+hit_le false = omega arith

@@ -12,7 +12,7 @@ use Rattle.lists.specs.Keys.{under, has_key, Ascending, times}
 use Rattle.lists.specs.Entries.{key_of}
 use Rattle.lists.proofs.Tests.{test}
 use Rattle.lists.proofs.Keep.{keep_append, keep_all, keep-none, keep-map, all-imp, all-of-key, some-none, some-map}
-use Rattle.build_stops.specs.Over.{over_keys, keys_of, kept}
+use Rattle.build_stops.specs.Over.{over_keys, keys_of}
 use Rattle.build_stops.proofs.Over.{times_none, member-over}
 
 -- ---- times among entries

@@ -3,7 +3,7 @@ use mathlib.Core.Path.{◌≡◌, sym, ap, ◌∙◌}
 use mathlib.Core.Bool.{false, ◌&&◌}
 use mathlib.Core.List.{List, [], ◌∷◌, ◌++◌, map}
 use mathlib.Core.Logic.{⊎_elim}
-use Prim.Native.Nat.{ℕ, ◌+◌, ◌*◌, ◌-◌, ◌/◌, ◌≤◌, ◌<◌}
+use Prim.Native.Nat.{ℕ, ◌+◌, ◌*◌, ◌/◌, ◌≤◌, ◌<◌}
 use native.Mathlib.Nat.{mul_comm, le-div_iff_mul-le}
 use native.Mathlib.Omega.{arith}
 use lib.ListN.{length, length-append, length-map}
@@ -11,7 +11,7 @@ use lib.Dec.{leb, ltb}
 use borrow.Author.Tests.{lt-ltb, ltb-false}
 use Rattle.lists.specs.Lists.{keep, All, sum}
 use Rattle.lists.specs.Keys.{Sorted}
-use Rattle.lists.proofs.Tests.{test, not-both, le-or-lt}
+use Rattle.lists.proofs.Tests.{le-or-lt}
 use Rattle.lists.proofs.Keep.{all-imp, all_map, length-keep}
 use Rattle.lists.proofs.Place.{sorted-keep, sorted-map}
 use Rattle.sorting.specs.Order.{sort}
@@ -34,14 +34,9 @@ pub sum-hashes : (words : List ℕ) (v : ℕ) (lengths : List ℕ) → Fit words
 sum-hashes words v lengths fit = (le-div_iff_mul-le {k = v} {x = sum lengths} fit.some).1 (rw (mul_comm (sum lengths) v) fit.whole)
 
 -- each batch but the last has `least` codes or more, so after as many batches as m hashes can be, none is left
-pub batches-end : (m all left lo k : ℕ) → all ≡ most_batches m → (lo < top → least * (all - left) ≤ k) → k ≤ m → ltb 0 left && ltb lo top ≡ false → top ≤ lo
+pub batches-end : (m turns lo k : ℕ) → most_batches m ≤ turns → (lo < top → least * turns ≤ k) → k ≤ m → top ≤ lo
 unfolding most_batches
-batches-end m all left lo k most bound few e =
-    ⊎_elim (λ (h : top ≤ lo). h)
-    (λ (h : lo < top).
-    let none : left ≤ 0 = test (ltb 0 left) (λ a. absurd (not-both (rw (a, lt-ltb lo top h)) e)) (λ a. ltb-false 0 left a) in
-    absurd (omega (arith, most, bound h)))
-    (le-or-lt top lo)
+batches-end m turns lo k most bound few = ⊎_elim (λ (h : top ≤ lo). h) (λ (h : lo < top). absurd (omega (arith, bound h))) (le-or-lt top lo)
 
 module _ (words : List ℕ) (v : ℕ) (lengths : List ℕ) where
   abbrev pub W : List ℕ

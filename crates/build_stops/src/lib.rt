@@ -8,26 +8,14 @@ ghost use Rattle.lists.specs.Entries.{keys_ascend, entries};
 ghost use Rattle.build_ranges.specs.Codes.{in_order, Fit};
 ghost use Rattle.build_stops.specs.Over.{key_in, over_keys, Counted, keys_of, kept, RunEnd};
 
+use build_ranges::{TOP, next_width};
+
 // How often a key stood, with one time more.
 fn next_run(last: u64, run: usize, key: u64) -> usize
     requires { run < 0x1_0000_0000 }
     ensures { result ≡ cond (eqb key last) (run + 1) 1 }
 {
-    if key == last {
-        return run + 1;
-    }
-    1
-}
-
-// 1 where a run passes the limit just now, else 0.
-fn passes(run: usize, limit: usize) -> usize
-    requires { limit < 0x1_0000_0000 }
-    ensures { (result ≡ cond (eqb run (limit + 1)) 1 0) × (result ≤ 1) }
-{
-    if run == limit + 1 {
-        return 1;
-    }
-    0
+    if key == last { run + 1 } else { 1 }
 }
 
 #[derive(Clone, Copy)]
@@ -37,24 +25,19 @@ struct Runs {
     over: usize,
 }
 
-// The runs of n more codes.
-fn count_runs(buf: &[i64], n: usize, limit: usize, st: Runs) -> Runs
-    requires { (n ≤ length buf.now) × (limit < 0x1_0000_0000) × (st.run + n ≤ 33554432) × (st.over + n ≤ 33554432) }
-    ensures { (result.run ≤ st.run + n) × (result.over ≤ st.over + n) × ((l cs : List ℕ) → take n buf.now ≡ map pos cs
+// The runs with more codes.
+fn count_runs(codes: &[i64], limit: usize, mut st: Runs) -> Runs
+    requires { (limit < 0x1_0000_0000) × (st.run + length codes.now ≤ 33554432) × (st.over + length codes.now ≤ 33554432) }
+    ensures { (result.run ≤ st.run + length codes.now) × (result.over ≤ st.over + length codes.now) × ((l cs : List ℕ) → codes.now ≡ map pos cs
         → Sorted (λ k. k) (l ++ map key_in cs) → Counted limit l st.key st.run st.over → Counted limit (l ++ map key_in cs) result.key result.run result.over) }
 {
-    let mut key = st.key;
-    let mut run = st.run;
-    let mut over = st.over;
-    let mut t = 0;
-    while t < n {
-        let k = maps::word_at(buf, t) / 33554432;
-        run = next_run(key, run, k);
-        over += passes(run, limit);
-        key = k;
-        t += 1;
+    for t in 0..codes.len() {
+        let key = maps::word_at(codes, t) / 33554432;
+        st.run = next_run(st.key, st.run, key);
+        st.over += usize::from(st.run == limit + 1);
+        st.key = key;
     }
-    Runs { key, run, over }
+    st
 }
 
 // How many keys are over the limit. Each batch but the last has 10,240 codes or more, so m hashes make at most m / 10,240 + 1 batches, and the loop takes no
@@ -70,17 +53,17 @@ pub fn over_count(hashes: &[u32], v: usize, lengths: &[u32], limit: usize) -> us
         over: 0,
     };
     // no build has more hashes than 4,096 * 8,192
-    let m = maps::smaller((hashes.len() / v) as u64, 33554432) as usize;
-    let mut left = build_ranges::most_batches(m);
+    let m = (hashes.len() / v).min(33554432);
     let mut lo = 0;
-    let mut width = build_ranges::next_width(build_ranges::TOP, m);
-    while (0 < left) & (lo < build_ranges::TOP) {
+    let mut width = next_width(TOP, m);
+    for turn in 0..build_ranges::most_batches(m) {
+        if TOP <= lo {
+            break;
+        }
         let g = build_ranges::batch(&mut buf, hashes, v, lengths, lo, width);
-        let n = g.n;
-        st = count_runs(&buf, n, limit, st);
-        width = build_ranges::next_width(g.hi - lo, n);
+        st = count_runs(&buf[..g.n], limit, st);
+        width = next_width(g.hi - lo, g.n);
         lo = g.hi;
-        left -= 1;
     }
     st.over
 }
@@ -90,10 +73,7 @@ pub fn over_room(hashes: &[u32], v: usize, lengths: &[u32], limit: usize, room: 
     requires { Fit hashes.now v lengths.now × (limit < 0x1_0000_0000) }
     ensures { result ≡ ltb room (length (over_keys limit (map key_in (in_order hashes.now v lengths.now)))) }
 {
-    if hashes.len() / v / (limit + 1) <= room {
-        return false;
-    }
-    room < over_count(hashes, v, lengths, limit)
+    room < hashes.len() / v / (limit + 1) && room < over_count(hashes, v, lengths, limit)
 }
 
 // Where the entries with the key of entry i end.
@@ -102,14 +82,12 @@ fn key_run_end(posts: &[u32], w: usize, i: usize, n: usize) -> usize
     ensures { RunEnd posts.now w i n result }
 {
     let key = maps::key_at(posts, w, i);
-    let mut e = i + 1;
-    while e < n {
+    for e in i + 1..n {
         if maps::key_at(posts, w, e) != key {
             return e;
         }
-        e += 1;
     }
-    e
+    n
 }
 
 #[derive(Clone, Copy)]
@@ -131,17 +109,17 @@ pub fn stop_runs(posts: &mut [u32], w: usize, n: usize, stops: &mut [u32], limit
     let mut i = 0;
     let mut q = 0;
     let mut k = 0;
+    // a step takes the entries of one key
     while i < n {
         let e = key_run_end(posts, w, i, n);
         if limit < e - i {
             stops[k] = maps::key_at(posts, w, i);
             k += 1;
-            i = e;
         } else {
             slices::move_down(posts, w * q, w * i, w * (e - i));
             q += e - i;
-            i = e;
         }
+        i = e;
     }
     Left {
         postings: q,
