@@ -12,7 +12,6 @@ ghost use Rattle.maps.specs.Puts.{entry_of};
 ghost use Rattle.build_entries.specs.Laid.{entry_by, SameFrom, laid_entries, StartsTo, row_for};
 
 use rows::Row;
-use slices::{at, size};
 
 // Hash i becomes entry e, for recording id.
 fn lay_entry(posts: &mut [u32], w: usize, e: usize, hashes: &[u32], i: usize, id: u32)
@@ -29,11 +28,9 @@ fn fill_starts(starts: &mut [u32; 4096], lengths: &[u32])
     ensures { StartsTo starts.new lengths.now (length lengths.now) }
 {
     let mut total: u32 = 0;
-    let mut i = 0;
-    while i < lengths.len() {
+    for (i, n) in lengths.iter().enumerate() {
         starts[i] = total;
-        total += at(lengths, i);
-        i += 1;
+        total += *n;
     }
 }
 
@@ -42,10 +39,8 @@ fn fill_part(posts: &mut [u32], to: usize, base: usize, n: usize)
     requires { (to + n ≤ length posts.old) × (base + n ≤ 33554432) }
     ensures { take (to + n) posts.new ≡ take to posts.old ++ tabulate (λ j. base + j) n }
 {
-    let mut j = 0;
-    while j < n {
+    for j in 0..n {
         posts[to + j] = (base + j) as u32;
-        j += 1;
     }
 }
 
@@ -55,12 +50,10 @@ fn fill_ranks(posts: &mut [u32], lengths: &[u32]) -> usize
     ensures { (result ≡ sum lengths.now) × (take result posts.new ≡ ranks_from 0 lengths.now) }
 {
     let mut m = 0;
-    let mut i = 0;
-    while i < lengths.len() {
-        let n = size(at(lengths, i));
+    for (i, n) in lengths.iter().enumerate() {
+        let n = *n as usize;
         fill_part(posts, m, 8192 * i, n);
         m += n;
-        i += 1;
     }
     m
 }
@@ -72,11 +65,9 @@ fn lay_ranks(posts: &mut [u32], w: usize, m: usize, hashes: &[u32], starts: &[u3
         ≡ flat (map (entry_by hashes.now w starts.now) (take m (drop ((w - 1) * m) posts.old))) }
 {
     let first = (w - 1) * m;
-    let mut t = 0;
-    while t < m {
+    for t in 0..m {
         let r = posts[first + t];
         lay_entry(posts, w, t, hashes, build_sort::place(starts, r), r / 8192);
-        t += 1;
     }
 }
 
@@ -127,12 +118,10 @@ pub fn put_rows(
         ++ flat (tabulate (λ i. row_for hashes.now w (sum (take i lengths.now)) (get_or lengths.now i 0) (get_or rates.now i 0) (get_or sets.now i 0)) (length lengths.now)) }
 {
     let mut start = 0;
-    let mut i = 0;
-    while i < lengths.len() {
-        let n = size(at(lengths, i));
-        let row = part_row(hashes, w, start, n, at(rates, i), at(sets, i));
+    for (i, n) in lengths.iter().enumerate() {
+        let n = *n as usize;
+        let row = part_row(hashes, w, start, n, rates[i], sets[i]);
         lay_row(refs, i, row);
         start += n;
-        i += 1;
     }
 }
