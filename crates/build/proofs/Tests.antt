@@ -9,6 +9,7 @@ use lib.ListN.{length, get_or, take, drop}
 use lib.Seq.{take-suc, take_all}
 use lib.Dec.{eqb, leb, ltb}
 use borrow.Author.Tests.{leb-true, lt-ltb, ne_eqb, eq-eqb}
+use Rattle.std.specs.List.{list_any}
 use Rattle.lists.specs.Lists.{some?, sum}
 use Rattle.lists.proofs.Tests.{and_left, and_right, or_right, or-false-left, or-false-right}
 use Rattle.lists.proofs.Keep.{some-map}
@@ -73,6 +74,12 @@ module _ (t : ℕ → Bool) where
 
   pub some-all : (l : List ℕ) (i : ℕ) → length l ≤ i → some? t (take i l) ≡ false → some? t l ≡ false
   some-all l i h e = rw (take_all i l h) at e
+
+-- the library's test is the same
+pub some-any : (t : ℕ → Bool) (l : List ℕ) → list_any t l ≡ some? t l
+unfolding some?
+some-any t [] = refl
+some-any t (x ∷ l) = rw (some-any t l)
 
 -- ---- the recordings' sets
 

@@ -1,5 +1,5 @@
 -- A build's answer as document 01's cases, its refusal, and its rows. Definitions only. Assumes nothing.
-use Rattle.std.specs.Prelude.{List, ℕ, length, get_or, take}
+use Rattle.std.specs.Prelude.{List, ℕ, Result, Ok, Err, ⊤, length, get_or, take}
 use Rattle.lists.specs.Lists.{sum}
 use Rattle.build_ranges.specs.Codes.{tabulate}
 use Rattle.build_entries.specs.Laid.{row_for}
@@ -7,13 +7,13 @@ use Rattle.model.specs.Fingerprints.{fingerprints_of, malformed_build}
 use Rattle.model.specs.Calls.{Answer, built, refused, refusal, number_of, build_tests}
 use Rattle.model.specs.Words.{Words, sizes_of}
 use Rattle.model.specs.Run.{store_of}
-use Rattle.build.specs.declared.Building.{Building}
-use Rattle.build.specs.declared.Building.TheVariants.{Refused, Built}
+use Rattle.refusals.specs.declared.Refusal.{Refusal}
+use Rattle.refusals.specs.Numbers as refusals
 
 -- "Every answer is a case: built, .. or refused with a number."
-abbrev pub building_answer : Building → Answer
-building_answer (Refused n) = refused n
-building_answer Built = built
+abbrev pub building_answer : Result ⊤ Refusal → Answer
+building_answer (Ok u) = built
+building_answer (Err r) = refused (refusals.number_of r)
 
 -- why a build is refused: "The lowest number that applies is returned."
 unfoldable pub build_refusal : ℕ → Words → ℕ → List ℕ → List ℕ → List ℕ → List ℕ → ℕ

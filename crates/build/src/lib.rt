@@ -7,6 +7,7 @@ ghost use Rattle.lists.specs.Entries.{padded};
 ghost use Rattle.build_ranges.specs.Codes.{Fit};
 ghost use Rattle.build_stops.specs.Over.{over_keys, keys_of, kept};
 ghost use Rattle.build_entries.specs.Laid.{laid_entries};
+ghost use Rattle.refusals.specs.Numbers.{number_in};
 ghost use Rattle.model.specs.Fingerprints.{malformed_build, reference_most};
 ghost use Rattle.model.specs.Rows.{is_set};
 ghost use Rattle.model.specs.Run.{run_build};
@@ -15,31 +16,19 @@ ghost use Rattle.model.specs.Words.{head_width, row_width};
 ghost use Rattle.build.specs.Answers.{building_answer, build_refusal, rows_for};
 
 use build_stops::Left;
-use slices::{at, size};
-
-// "built", or "refused with a number".
-#[derive(Clone, Copy)]
-pub enum Building {
-    Refused(u32),
-    Built,
-}
+use refusals::Refusal;
 
 // Whether no length is above 8,192 and they add up to m.
 fn lengths_fit(lengths: &[u32], m: usize) -> bool
     ensures { result ≡ not (some? (λ n. ltb reference_most n) lengths.now || not (eqb (sum lengths.now) m)) }
 {
     let mut total = 0;
-    let mut i = 0;
-    while i < lengths.len() {
-        let n = size(at(lengths, i));
-        if 8192 < n {
-            return false;
-        }
-        if m - total < n {
+    for n in lengths {
+        let n = *n as usize;
+        if 8192 < n || m - total < n {
             return false;
         }
         total += n;
-        i += 1;
     }
     total == m
 }
@@ -48,14 +37,7 @@ fn lengths_fit(lengths: &[u32], m: usize) -> bool
 fn has_faulty_set(sets: &[u32]) -> bool
     ensures { result ≡ some? (λ s. not (is_set s)) sets.now }
 {
-    let mut i = 0;
-    while i < sets.len() {
-        if !rows::is_set(at(sets, i)) {
-            return true;
-        }
-        i += 1;
-    }
-    false
+    sets.iter().any(|s| !rows::is_set(*s))
 }
 
 // Whether a build's words are malformed.
@@ -64,19 +46,13 @@ fn is_malformed(hashes: &[u32], lengths: &[u32], rates: &[u32], sets: &[u32], w:
     ensures { result ≡ malformed_build w hashes.now lengths.now rates.now sets.now }
 {
     let v = w - 1;
-    if hashes.len() % v != 0 {
-        return true;
-    }
-    if rates.len() != lengths.len() {
-        return true;
-    }
-    if sets.len() != lengths.len() {
+    if hashes.len() % v != 0 || rates.len() != lengths.len() || sets.len() != lengths.len() {
         return true;
     }
     !lengths_fit(lengths, hashes.len() / v)
 }
 
-// Why a build is refused; 0 where it is not. Nothing is written.
+// Why a build is refused, if it is. Nothing is written.
 fn refusal_of(
     refs: &[u32],
     posts: &[u32],
@@ -87,30 +63,30 @@ fn refusal_of(
     w: usize,
     limit: u32,
     sets: &[u32],
-) -> u32
+) -> Result<(), Refusal>
     requires { (3 ≤ w) × (w ≤ 5) }
-    ensures { result ≡ build_refusal w (words refs.now posts.now stops.now) limit hashes.now lengths.now rates.now sets.now }
+    ensures { number_in result ≡ build_refusal w (words refs.now posts.now stops.now) limit hashes.now lengths.now rates.now sets.now }
 {
     if !soundness::is_listed(refs, posts, stops, w) {
-        return 1;
+        return Err(Refusal::Unlisted);
     }
     if is_malformed(hashes, lengths, rates, sets, w) {
-        return 3;
+        return Err(Refusal::Malformed);
     }
     if has_faulty_set(sets) {
-        return 9;
+        return Err(Refusal::Set);
     }
     if (refs.len() - rows::HEAD_WIDTH) / rows::ROW_WIDTH < lengths.len() {
-        return 5;
+        return Err(Refusal::NoRow);
     }
     let v = w - 1;
     if posts.len() / w < hashes.len() / v {
-        return 6;
+        return Err(Refusal::NoPostings);
     }
-    if build_stops::over_room(hashes, v, lengths, size(limit), stops.len()) {
-        return 7;
+    if build_stops::over_room(hashes, v, lengths, limit as usize, stops.len()) {
+        return Err(Refusal::NoStops);
     }
-    0
+    Ok(())
 }
 
 // Writes the entries of m hashes and the stopped keys. Yields how many there are of each.
@@ -133,10 +109,8 @@ fn put_postings(
 {
     build_entries::lay_all(posts, w, hashes, lengths);
     let left = build_stops::stop_runs(posts, w, m, stops, limit);
-    let p = left.postings;
-    let k = left.stopped;
-    slices::clear_from(posts, w * p);
-    slices::clear_from(stops, k);
+    slices::clear_from(posts, w * left.postings);
+    slices::clear_from(stops, left.stopped);
     left
 }
 
@@ -173,17 +147,14 @@ pub fn build(
     w: usize,
     limit: u32,
     sets: &[u32],
-) -> Building
+) -> Result<(), Refusal>
     requires { (3 ≤ w) × (w ≤ 5) }
     ensures { (building_answer result, words refs.new posts.new stops.new)
         ≡ run_build w (words refs.old posts.old stops.old) limit hashes.now lengths.now rates.now sets.now }
 {
-    let n = refusal_of(refs, posts, stops, hashes, lengths, rates, w, limit, sets);
-    if n != 0 {
-        return Building::Refused(n);
-    }
+    refusal_of(refs, posts, stops, hashes, lengths, rates, w, limit, sets)?;
     let m = hashes.len() / (w - 1);
-    let left = put_postings(posts, stops, hashes, lengths, m, w, size(limit));
+    let left = put_postings(posts, stops, hashes, lengths, m, w, limit as usize);
     put_references(
         refs,
         hashes,
@@ -194,5 +165,5 @@ pub fn build(
         left.postings,
         left.stopped,
     );
-    Building::Built
+    Ok(())
 }

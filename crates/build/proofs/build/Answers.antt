@@ -1,0 +1,81 @@
+-- `build::build` meets its contract. Assumes nothing.
+use Rattle.std.proofs.Common.{◌≡◌, List, ℕ, ◌-◌, ◌≤◌, ◌<◌, get_or, arith, sym}
+use Rattle.std.proofs.lemmas.Result.{err_from_is_err_and}
+use Rattle.refusals.specs.Numbers.{number_of}
+use Rattle.refusals.specs.declared.Refusal.{Refusal}
+use Rattle.refusals.specs.declared.Refusal.TheVariants.{Unlisted, Unsound, Malformed, Setting, Set, NotLive, NoRow, NoPostings, NoStops, NoScratch}
+use Rattle.soundness.specs.Scan.{words}
+use Rattle.build_ranges.specs.Codes.{Fit}
+use Rattle.build.specs.Answers.{build_refusal}
+use Rattle.build.proofs.Accepted.{Accepted, accepted, refused-run, written, accepted-fit, accepted-rated, accepted-grouped, accepted-rows, accepted-many, accepted-postings, accepted-few, accepted-stops, accepted-keys}
+use Rattle.build.proofs.build.Goals as goal
+
+some-number : (r : Refusal) → number_of r ≡ 0 → ⊥
+some-number Unlisted e = omega arith
+some-number Unsound e = omega arith
+some-number Malformed e = omega arith
+some-number Setting e = omega arith
+some-number Set e = omega arith
+some-number NotLive e = omega arith
+some-number NoRow e = omega arith
+some-number NoPostings e = omega arith
+some-number NoStops e = omega arith
+some-number NoScratch e = omega arith
+
+module _ (w : ℕ) (refs posts stops : List ℕ) (limit : ℕ) (hashes lengths rates sets : List ℕ) (w3 : 3 ≤ w) (w5 : w ≤ 5)
+    (e : 0 ≡ build_refusal w (words refs posts stops) limit hashes lengths rates sets) (keys : (i : ℕ) → get_or hashes i 0 < 0x1_0000_0000) where
+  acc : Accepted w (words refs posts stops) limit hashes lengths rates sets
+  acc = accepted w (words refs posts stops) limit hashes lengths rates sets (sym e)
+
+  fit : Fit hashes (w - 1) lengths
+  fit = accepted-fit w refs posts stops limit hashes lengths rates sets w3 w5 acc keys
+
+pub returns-in_err-refusal_of : goal.returns-in_err-refusal_of
+returns-in_err-refusal_of c =
+    let a = c.args in
+    let r = c.in_err-refusal_of.field-0.0 in
+    let p = err_from_is_err_and c.from_residual.result c.from_residual.ensures.1 in
+    rw (p.1, p.2) (refused-run a.w (words a.refs.now a.posts.now a.stops.now) a.limit a.hashes.now a.lengths.now a.rates.now a.sets.now (number_of r) c.in_err-refusal_of.ensures (some-number r) (omega (arith, c.requires.0)))
+
+pub put_postings-left-requires : goal.put_postings-left-requires
+put_postings-left-requires c =
+    let a = c.args in
+    let r = c.requires in
+    let keys : (i : ℕ) → get_or a.hashes.now i 0 < 0x1_0000_0000 = λ i. omega (arith, c.type_inv.hashes i) in
+    let k = acc a.w a.refs.now a.posts.now a.stops.now a.limit a.hashes.now a.lengths.now a.rates.now a.sets.now r.0 r.1 c.in_ok-refusal_of.ensures keys in
+    let f = fit a.w a.refs.now a.posts.now a.stops.now a.limit a.hashes.now a.lengths.now a.rates.now a.sets.now r.0 r.1 c.in_ok-refusal_of.ensures keys in (
+      r.0,
+      r.1,
+      f,
+      accepted-many a.w a.refs.now a.posts.now a.stops.now a.limit a.hashes.now a.lengths.now a.rates.now a.sets.now r.0 r.1 k,
+      accepted-postings a.w a.refs.now a.posts.now a.stops.now a.limit a.hashes.now a.lengths.now a.rates.now a.sets.now r.0 r.1 k,
+      accepted-stops a.w a.refs.now a.posts.now a.stops.now a.limit a.hashes.now a.lengths.now a.rates.now a.sets.now r.0 r.1 k f,
+    )
+
+pub put_references-requires : goal.put_references-requires
+put_references-requires c =
+    let a = c.args in
+    let r = c.requires in
+    let g = c.put_postings-left in
+    let keys : (i : ℕ) → get_or a.hashes.now i 0 < 0x1_0000_0000 = λ i. omega (arith, c.type_inv.hashes i) in
+    let k = acc a.w a.refs.now a.posts.now a.stops.now a.limit a.hashes.now a.lengths.now a.rates.now a.sets.now r.0 r.1 c.in_ok-refusal_of.ensures keys in
+    let f = fit a.w a.refs.now a.posts.now a.stops.now a.limit a.hashes.now a.lengths.now a.rates.now a.sets.now r.0 r.1 c.in_ok-refusal_of.ensures keys in (
+      r.0,
+      accepted-rows a.w a.refs.now a.posts.now a.stops.now a.limit a.hashes.now a.lengths.now a.rates.now a.sets.now r.0 r.1 k,
+      accepted-rated a.w a.refs.now a.posts.now a.stops.now a.limit a.hashes.now a.lengths.now a.rates.now a.sets.now r.0 r.1 k,
+      accepted-grouped a.w a.refs.now a.posts.now a.stops.now a.limit a.hashes.now a.lengths.now a.rates.now a.sets.now r.0 r.1 k,
+      f,
+      omega (arith, g.ensures.1, accepted-few a.w a.refs.now a.posts.now a.stops.now a.limit a.hashes.now a.lengths.now a.rates.now a.sets.now r.0 r.1 k),
+      omega (arith, g.ensures.2, accepted-stops a.w a.refs.now a.posts.now a.stops.now a.limit a.hashes.now a.lengths.now a.rates.now a.sets.now r.0 r.1 k f, accepted-keys a.w a.refs.now a.posts.now a.stops.now a.limit a.hashes.now a.lengths.now a.rates.now a.sets.now r.0 r.1 k),
+    )
+
+pub returns : goal.returns
+returns c =
+    let a = c.args in
+    let r = c.requires in
+    let g = c.put_postings-left in
+    let keys : (i : ℕ) → get_or a.hashes.now i 0 < 0x1_0000_0000 = λ i. omega (arith, c.type_inv.hashes i) in
+    let k = acc a.w a.refs.now a.posts.now a.stops.now a.limit a.hashes.now a.lengths.now a.rates.now a.sets.now r.0 r.1 c.in_ok-refusal_of.ensures keys in
+    let f = fit a.w a.refs.now a.posts.now a.stops.now a.limit a.hashes.now a.lengths.now a.rates.now a.sets.now r.0 r.1 c.in_ok-refusal_of.ensures keys in
+    written a.w a.refs.now a.posts.now a.stops.now a.limit a.hashes.now a.lengths.now a.rates.now a.sets.now r.0 k f c.put_references.new.refs g.new.posts g.new.stops g.result.postings g.result.stopped
+    g.ensures.0 g.ensures.2 c.put_references.ensures g.ensures.3 g.ensures.4

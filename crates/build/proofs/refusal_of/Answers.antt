@@ -1,0 +1,113 @@
+-- `build::refusal_of` meets its contract. Assumes nothing.
+use Rattle.std.proofs.Common.{◌≡◌, true, false, not, List, map, ℕ, ◌-◌, ◌/◌, ◌≤◌, ◌<◌, length, ltb, arith, sym, ◌∙◌}
+use borrow.Author.Tests.{lt-ltb, le-ltb}
+use Rattle.lists.specs.Lists.{some?}
+use Rattle.build_ranges.specs.Codes.{in_order, Fit}
+use Rattle.build_stops.specs.Over.{key_in, over_keys}
+use Rattle.model.specs.Fingerprints.{fingerprints_of, malformed_build}
+use Rattle.model.specs.Rows.{is_set}
+use Rattle.model.specs.Words.{Words, sizes_of, slices_listed, head_width, row_width}
+use Rattle.model.specs.Index.{numbered}
+use Rattle.soundness.specs.Scan.{words}
+use Rattle.build.specs.Answers.{build_refusal}
+use Rattle.build.proofs.Tests.{few-rows, some-rows}
+use Rattle.build.proofs.Accepted.{rung-1, rung-3, rung-9, rung-5, rung-6, rung-7, rung-0, sets-test, rows-test, postings-test, stopped-test, fit_is}
+use Rattle.build.proofs.refusal_of.Goals as goal
+
+-- the tests, as the code has them
+module _ (w : ℕ) (refs posts stops : List ℕ) (limit : ℕ) (hashes lengths rates sets : List ℕ)
+    (l : slices_listed w (words refs posts stops) ≡ true) (b : malformed_build w hashes lengths rates sets ≡ false) where
+  abbrev m : Words
+  m = words refs posts stops
+
+  at-sets : true ≡ some? (λ s. not (is_set s)) sets → 9 ≡ build_refusal w (words refs posts stops) limit hashes lengths rates sets
+  at-sets e = sym (rung-9 w m limit hashes lengths rates sets l b (sets-test w refs posts stops limit hashes lengths rates sets b ∙ sym e))
+
+  module _ (s : false ≡ some? (λ s. not (is_set s)) sets) where
+    sound : some? (λ f. not (is_set f.set)) (fingerprints_of w hashes lengths rates sets) ≡ false
+    sound = sets-test w refs posts stops limit hashes lengths rates sets b ∙ sym s
+
+    at-rows : (length refs - head_width) / row_width < length lengths → 5 ≡ build_refusal w (words refs posts stops) limit hashes lengths rates sets
+    at-rows h =
+        sym (rung-5 w m limit hashes lengths rates sets l b sound
+        (rows-test w refs posts stops limit hashes lengths rates sets b ∙ lt-ltb ((length refs - head_width) / row_width) (length lengths) h))
+
+    module _ (r : length lengths ≤ (length refs - head_width) / row_width) where
+      rows-fit : ltb (sizes_of w (words refs posts stops)).R (length (fingerprints_of w hashes lengths rates sets)) ≡ false
+      rows-fit = rows-test w refs posts stops limit hashes lengths rates sets b ∙ le-ltb ((length refs - head_width) / row_width) (length lengths) r
+
+      at-postings : length posts / w < length hashes / (w - 1) → 6 ≡ build_refusal w (words refs posts stops) limit hashes lengths rates sets
+      at-postings h =
+          sym (rung-6 w m limit hashes lengths rates sets l b sound rows-fit
+          (postings-test w refs posts stops limit hashes lengths rates sets b ∙ lt-ltb (length posts / w) (length hashes / (w - 1)) h))
+
+      module _ (p : length hashes / (w - 1) ≤ length posts / w) (w3 : 3 ≤ w) (fit : Fit hashes (w - 1) lengths) where
+        postings-fit : ltb (sizes_of w (words refs posts stops)).P (length (numbered 0 (fingerprints_of w hashes lengths rates sets))) ≡ false
+        postings-fit = postings-test w refs posts stops limit hashes lengths rates sets b ∙ le-ltb (length posts / w) (length hashes / (w - 1)) p
+
+        at-stops : true ≡ ltb (length stops) (length (over_keys limit (map key_in (in_order hashes (w - 1) lengths)))) → 7 ≡ build_refusal w (words refs posts stops) limit hashes lengths rates sets
+        at-stops e =
+            sym (rung-7 w m limit hashes lengths rates sets l b sound rows-fit postings-fit (stopped-test w refs posts stops limit hashes lengths rates sets b w3 fit ∙ sym e))
+
+        at-none : false ≡ ltb (length stops) (length (over_keys limit (map key_in (in_order hashes (w - 1) lengths)))) → 0 ≡ build_refusal w (words refs posts stops) limit hashes lengths rates sets
+        at-none e =
+            sym (rung-0 w m limit hashes lengths rates sets l b sound rows-fit postings-fit (stopped-test w refs posts stops limit hashes lengths rates sets b w3 fit ∙ sym e))
+
+pub returns-then-not-is_listed : goal.returns-then-not-is_listed
+returns-then-not-is_listed c =
+    let a = c.args in
+    sym (rung-1 a.w (words a.refs.now a.posts.now a.stops.now) a.limit a.hashes.now a.lengths.now a.rates.now a.sets.now (sym c.if-not-is_listed.ensures))
+
+pub returns-then-is_malformed : goal.returns-then-is_malformed
+returns-then-is_malformed c =
+    let a = c.args in
+    sym (rung-3 a.w (words a.refs.now a.posts.now a.stops.now) a.limit a.hashes.now a.lengths.now a.rates.now a.sets.now (sym c.if-not-is_listed.ensures) (sym c.if-is_malformed.ensures))
+
+pub returns-then-has_faulty_set : goal.returns-then-has_faulty_set
+returns-then-has_faulty_set c =
+    let a = c.args in
+    at-sets a.w a.refs.now a.posts.now a.stops.now a.limit a.hashes.now a.lengths.now a.rates.now a.sets.now (sym c.if-not-is_listed.ensures) (sym c.if-is_malformed.ensures) c.if-has_faulty_set.ensures
+
+pub overflow_sub-refs : goal.overflow_sub-refs
+overflow_sub-refs c =
+    let a = c.args in
+    omega (arith, some-rows a.w a.refs.now a.posts.now a.stops.now (omega (arith, c.requires.0)) (sym c.if-not-is_listed.ensures))
+
+pub returns-then-refs-lengths : goal.returns-then-refs-lengths
+returns-then-refs-lengths c =
+    let a = c.args in
+    at-rows a.w a.refs.now a.posts.now a.stops.now a.limit a.hashes.now a.lengths.now a.rates.now a.sets.now (sym c.if-not-is_listed.ensures) (sym c.if-is_malformed.ensures) c.if-has_faulty_set.ensures
+    c.if-refs-lengths.true
+
+pub returns-then-posts-w : goal.returns-then-posts-w
+returns-then-posts-w c =
+    let a = c.args in
+    at-postings a.w a.refs.now a.posts.now a.stops.now a.limit a.hashes.now a.lengths.now a.rates.now a.sets.now (sym c.if-not-is_listed.ensures) (sym c.if-is_malformed.ensures) c.if-has_faulty_set.ensures
+    c.if-refs-lengths.false c.if-posts-w.true
+
+pub over_room-requires : goal.over_room-requires
+over_room-requires c =
+    let a = c.args in (
+      fit_is a.w a.hashes.now a.lengths.now a.rates.now a.sets.now (sym c.if-is_malformed.ensures) c.requires.0 c.requires.1
+          (omega (arith, c.if-refs-lengths.false, few-rows a.w a.refs.now a.posts.now a.stops.now (omega (arith, c.requires.0)) (sym c.if-not-is_listed.ensures)))
+          (λ i. omega (arith, c.type_inv.hashes i)),
+      omega (arith, c.ranges.limit.fits),
+    )
+
+pub returns-then-over_room : goal.returns-then-over_room
+returns-then-over_room c =
+    let a = c.args in
+    let fit = fit_is a.w a.hashes.now a.lengths.now a.rates.now a.sets.now (sym c.if-is_malformed.ensures) c.requires.0 c.requires.1
+    (omega (arith, c.if-refs-lengths.false, few-rows a.w a.refs.now a.posts.now a.stops.now (omega (arith, c.requires.0)) (sym c.if-not-is_listed.ensures)))
+    (λ i. omega (arith, c.type_inv.hashes i)) in
+    at-stops a.w a.refs.now a.posts.now a.stops.now a.limit a.hashes.now a.lengths.now a.rates.now a.sets.now (sym c.if-not-is_listed.ensures) (sym c.if-is_malformed.ensures) c.if-has_faulty_set.ensures
+    c.if-refs-lengths.false c.if-posts-w.false c.requires.0 fit c.if-over_room.ensures
+
+pub returns : goal.returns
+returns c =
+    let a = c.args in
+    let fit = fit_is a.w a.hashes.now a.lengths.now a.rates.now a.sets.now (sym c.if-is_malformed.ensures) c.requires.0 c.requires.1
+    (omega (arith, c.if-refs-lengths.false, few-rows a.w a.refs.now a.posts.now a.stops.now (omega (arith, c.requires.0)) (sym c.if-not-is_listed.ensures)))
+    (λ i. omega (arith, c.type_inv.hashes i)) in
+    at-none a.w a.refs.now a.posts.now a.stops.now a.limit a.hashes.now a.lengths.now a.rates.now a.sets.now (sym c.if-not-is_listed.ensures) (sym c.if-is_malformed.ensures) c.if-has_faulty_set.ensures
+    c.if-refs-lengths.false c.if-posts-w.false c.requires.0 fit c.if-over_room.ensures
