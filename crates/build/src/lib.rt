@@ -17,6 +17,7 @@ ghost use Rattle.build.specs.Answers.{building_answer, build_refusal, rows_for};
 
 use build_stops::Left;
 use refusals::Refusal;
+use soundness::Store;
 
 // Whether no length is above 8,192 and they add up to m.
 fn lengths_fit(lengths: &[u32], m: usize) -> bool
@@ -54,20 +55,19 @@ fn is_malformed(hashes: &[u32], lengths: &[u32], rates: &[u32], sets: &[u32], w:
 
 // Why a build is refused, if it is. Nothing is written.
 fn refusal_of(
-    refs: &[u32],
-    posts: &[u32],
-    stops: &[u32],
+    store: Store,
     hashes: &[u32],
     lengths: &[u32],
     rates: &[u32],
-    w: usize,
     limit: u32,
     sets: &[u32],
 ) -> Result<(), Refusal>
-    requires { (3 ≤ w) × (w ≤ 5) }
-    ensures { number_in result ≡ build_refusal w (words refs.now posts.now stops.now) limit hashes.now lengths.now rates.now sets.now }
+    requires { store.width ≤ 5 }
+    ensures { number_in result
+        ≡ build_refusal store.entry.width (words store.entry.refs.now store.entry.posts.now store.entry.stops.now) limit hashes.now lengths.now rates.now sets.now }
 {
-    if !soundness::is_listed(refs, posts, stops, w) {
+    let w = store.width;
+    if !store.is_listed() {
         return Err(Refusal::Unlisted);
     }
     if is_malformed(hashes, lengths, rates, sets, w) {
@@ -76,14 +76,16 @@ fn refusal_of(
     if has_faulty_set(sets) {
         return Err(Refusal::Set);
     }
-    if (refs.len() - rows::HEAD_WIDTH) / rows::ROW_WIDTH < lengths.len() {
+    if (store.refs.len() - rows::HEAD_WIDTH) / rows::ROW_WIDTH < lengths.len() {
         return Err(Refusal::NoRow);
     }
     let v = w - 1;
-    if posts.len() / w < hashes.len() / v {
+    let room = store.posts.len() / w;
+    let many = hashes.len() / v;
+    if room < many {
         return Err(Refusal::NoPostings);
     }
-    if build_stops::over_room(hashes, v, lengths, limit as usize, stops.len()) {
+    if build_stops::over_room(hashes, v, lengths, limit as usize, store.stops.len()) {
         return Err(Refusal::NoStops);
     }
     Ok(())
@@ -152,7 +154,13 @@ pub fn build(
     ensures { (building_answer result, words refs.new posts.new stops.new)
         ≡ run_build w (words refs.old posts.old stops.old) limit hashes.now lengths.now rates.now sets.now }
 {
-    refusal_of(refs, posts, stops, hashes, lengths, rates, w, limit, sets)?;
+    let store = Store {
+        refs,
+        posts,
+        stops,
+        width: w,
+    };
+    refusal_of(store, hashes, lengths, rates, limit, sets)?;
     let m = hashes.len() / (w - 1);
     let left = put_postings(posts, stops, hashes, lengths, m, w, limit as usize);
     put_references(

@@ -2,25 +2,12 @@
 use Rattle.std.proofs.Common.{◌≡◌, List, ℕ, ◌-◌, ◌≤◌, ◌<◌, get_or, arith, sym}
 use Rattle.std.proofs.lemmas.Result.{err_from_is_err_and}
 use Rattle.refusals.specs.Numbers.{number_of}
-use Rattle.refusals.specs.declared.Refusal.{Refusal}
-use Rattle.refusals.specs.declared.Refusal.TheVariants.{Unlisted, Unsound, Malformed, Setting, Set, NotLive, NoRow, NoPostings, NoStops, NoScratch}
 use Rattle.soundness.specs.Scan.{words}
+use Rattle.soundness.proofs.Refusal.{numbered}
 use Rattle.build_ranges.specs.Codes.{Fit}
 use Rattle.build.specs.Answers.{build_refusal}
 use Rattle.build.proofs.Accepted.{Accepted, accepted, refused-run, written, accepted-fit, accepted-rated, accepted-grouped, accepted-rows, accepted-many, accepted-postings, accepted-few, accepted-stops, accepted-keys}
 use Rattle.build.proofs.build.Goals as goal
-
-some-number : (r : Refusal) → number_of r ≡ 0 → ⊥
-some-number Unlisted e = omega arith
-some-number Unsound e = omega arith
-some-number Malformed e = omega arith
-some-number Setting e = omega arith
-some-number Set e = omega arith
-some-number NotLive e = omega arith
-some-number NoRow e = omega arith
-some-number NoPostings e = omega arith
-some-number NoStops e = omega arith
-some-number NoScratch e = omega arith
 
 module _ (w : ℕ) (refs posts stops : List ℕ) (limit : ℕ) (hashes lengths rates sets : List ℕ) (w3 : 3 ≤ w) (w5 : w ≤ 5)
     (e : 0 ≡ build_refusal w (words refs posts stops) limit hashes lengths rates sets) (keys : (i : ℕ) → get_or hashes i 0 < 0x1_0000_0000) where
@@ -35,7 +22,7 @@ returns-in_err-refusal_of c =
     let a = c.args in
     let r = c.in_err-refusal_of.field-0.0 in
     let p = err_from_is_err_and c.from_residual.result c.from_residual.ensures.1 in
-    rw (p.1, p.2) (refused-run a.w (words a.refs.now a.posts.now a.stops.now) a.limit a.hashes.now a.lengths.now a.rates.now a.sets.now (number_of r) c.in_err-refusal_of.ensures (some-number r) (omega (arith, c.requires.0)))
+    rw (p.1, p.2) (refused-run a.w (words a.refs.now a.posts.now a.stops.now) a.limit a.hashes.now a.lengths.now a.rates.now a.sets.now (number_of r) c.in_err-refusal_of.ensures (numbered r) (omega (arith, c.requires.0)))
 
 pub put_postings-left-requires : goal.put_postings-left-requires
 put_postings-left-requires c =

@@ -1,5 +1,5 @@
 -- `build::lengths_fit` meets its contract. Assumes nothing.
-use Rattle.std.proofs.Common.{◌≤◌, get_or, arith, sym}
+use Rattle.std.proofs.Common.{get_or, arith, sym}
 use borrow.Author.Tests.{le-ltb}
 use Rattle.build_ranges.proofs.Ranks.{sum-none, sum_more}
 use Rattle.build.proofs.Tests.{long, some-none, some_more, too_long, too_many}

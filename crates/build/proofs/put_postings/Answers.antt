@@ -1,5 +1,5 @@
 -- `build::put_postings` meets its contract. Assumes nothing.
-use Rattle.std.proofs.Common.{◌≡◌, List, ℕ, ◌*◌, ◌≤◌, length, arith, ap, ◌∙◌}
+use Rattle.std.proofs.Common.{◌≡◌, List, ℕ, ◌*◌, length, arith, ap, ◌∙◌}
 use native.Mathlib.Nat.{mul-le-mul_left}
 use Rattle.lists.specs.Lists.{flat}
 use Rattle.build_stops.specs.Over.{over_keys, keys_of, kept}

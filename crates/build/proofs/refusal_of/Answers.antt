@@ -56,40 +56,40 @@ module _ (w : ℕ) (refs posts stops : List ℕ) (limit : ℕ) (hashes lengths r
 pub returns-then-not-is_listed : goal.returns-then-not-is_listed
 returns-then-not-is_listed c =
     let a = c.args in
-    sym (rung-1 a.w (words a.refs.now a.posts.now a.stops.now) a.limit a.hashes.now a.lengths.now a.rates.now a.sets.now (sym c.if-not-is_listed.ensures))
+    sym (rung-1 a.store.width (words a.store.refs.now a.store.posts.now a.store.stops.now) a.limit a.hashes.now a.lengths.now a.rates.now a.sets.now (sym c.if-not-is_listed.ensures))
 
 pub returns-then-is_malformed : goal.returns-then-is_malformed
 returns-then-is_malformed c =
     let a = c.args in
-    sym (rung-3 a.w (words a.refs.now a.posts.now a.stops.now) a.limit a.hashes.now a.lengths.now a.rates.now a.sets.now (sym c.if-not-is_listed.ensures) (sym c.if-is_malformed.ensures))
+    sym (rung-3 a.store.width (words a.store.refs.now a.store.posts.now a.store.stops.now) a.limit a.hashes.now a.lengths.now a.rates.now a.sets.now (sym c.if-not-is_listed.ensures) (sym c.if-is_malformed.ensures))
 
 pub returns-then-has_faulty_set : goal.returns-then-has_faulty_set
 returns-then-has_faulty_set c =
     let a = c.args in
-    at-sets a.w a.refs.now a.posts.now a.stops.now a.limit a.hashes.now a.lengths.now a.rates.now a.sets.now (sym c.if-not-is_listed.ensures) (sym c.if-is_malformed.ensures) c.if-has_faulty_set.ensures
+    at-sets a.store.width a.store.refs.now a.store.posts.now a.store.stops.now a.limit a.hashes.now a.lengths.now a.rates.now a.sets.now (sym c.if-not-is_listed.ensures) (sym c.if-is_malformed.ensures) c.if-has_faulty_set.ensures
 
-pub overflow_sub-refs : goal.overflow_sub-refs
-overflow_sub-refs c =
+pub overflow_sub-store : goal.overflow_sub-store
+overflow_sub-store c =
     let a = c.args in
-    omega (arith, some-rows a.w a.refs.now a.posts.now a.stops.now (omega (arith, c.requires.0)) (sym c.if-not-is_listed.ensures))
+    omega (arith, some-rows a.store.width a.store.refs.now a.store.posts.now a.store.stops.now (omega (arith, a.store.wide)) (sym c.if-not-is_listed.ensures))
 
-pub returns-then-refs-lengths : goal.returns-then-refs-lengths
-returns-then-refs-lengths c =
+pub returns-then-store-lengths : goal.returns-then-store-lengths
+returns-then-store-lengths c =
     let a = c.args in
-    at-rows a.w a.refs.now a.posts.now a.stops.now a.limit a.hashes.now a.lengths.now a.rates.now a.sets.now (sym c.if-not-is_listed.ensures) (sym c.if-is_malformed.ensures) c.if-has_faulty_set.ensures
-    c.if-refs-lengths.true
+    at-rows a.store.width a.store.refs.now a.store.posts.now a.store.stops.now a.limit a.hashes.now a.lengths.now a.rates.now a.sets.now (sym c.if-not-is_listed.ensures) (sym c.if-is_malformed.ensures) c.if-has_faulty_set.ensures
+    c.if-store-lengths.true
 
-pub returns-then-posts-w : goal.returns-then-posts-w
-returns-then-posts-w c =
+pub returns-then-room-many : goal.returns-then-room-many
+returns-then-room-many c =
     let a = c.args in
-    at-postings a.w a.refs.now a.posts.now a.stops.now a.limit a.hashes.now a.lengths.now a.rates.now a.sets.now (sym c.if-not-is_listed.ensures) (sym c.if-is_malformed.ensures) c.if-has_faulty_set.ensures
-    c.if-refs-lengths.false c.if-posts-w.true
+    at-postings a.store.width a.store.refs.now a.store.posts.now a.store.stops.now a.limit a.hashes.now a.lengths.now a.rates.now a.sets.now (sym c.if-not-is_listed.ensures) (sym c.if-is_malformed.ensures) c.if-has_faulty_set.ensures
+    c.if-store-lengths.false c.if-room-many.true
 
 pub over_room-requires : goal.over_room-requires
 over_room-requires c =
     let a = c.args in (
-      fit_is a.w a.hashes.now a.lengths.now a.rates.now a.sets.now (sym c.if-is_malformed.ensures) c.requires.0 c.requires.1
-          (omega (arith, c.if-refs-lengths.false, few-rows a.w a.refs.now a.posts.now a.stops.now (omega (arith, c.requires.0)) (sym c.if-not-is_listed.ensures)))
+      fit_is a.store.width a.hashes.now a.lengths.now a.rates.now a.sets.now (sym c.if-is_malformed.ensures) a.store.wide c.requires
+          (omega (arith, c.if-store-lengths.false, few-rows a.store.width a.store.refs.now a.store.posts.now a.store.stops.now (omega (arith, a.store.wide)) (sym c.if-not-is_listed.ensures)))
           (λ i. omega (arith, c.type_inv.hashes i)),
       omega (arith, c.ranges.limit.fits),
     )
@@ -97,17 +97,17 @@ over_room-requires c =
 pub returns-then-over_room : goal.returns-then-over_room
 returns-then-over_room c =
     let a = c.args in
-    let fit = fit_is a.w a.hashes.now a.lengths.now a.rates.now a.sets.now (sym c.if-is_malformed.ensures) c.requires.0 c.requires.1
-    (omega (arith, c.if-refs-lengths.false, few-rows a.w a.refs.now a.posts.now a.stops.now (omega (arith, c.requires.0)) (sym c.if-not-is_listed.ensures)))
+    let fit = fit_is a.store.width a.hashes.now a.lengths.now a.rates.now a.sets.now (sym c.if-is_malformed.ensures) a.store.wide c.requires
+    (omega (arith, c.if-store-lengths.false, few-rows a.store.width a.store.refs.now a.store.posts.now a.store.stops.now (omega (arith, a.store.wide)) (sym c.if-not-is_listed.ensures)))
     (λ i. omega (arith, c.type_inv.hashes i)) in
-    at-stops a.w a.refs.now a.posts.now a.stops.now a.limit a.hashes.now a.lengths.now a.rates.now a.sets.now (sym c.if-not-is_listed.ensures) (sym c.if-is_malformed.ensures) c.if-has_faulty_set.ensures
-    c.if-refs-lengths.false c.if-posts-w.false c.requires.0 fit c.if-over_room.ensures
+    at-stops a.store.width a.store.refs.now a.store.posts.now a.store.stops.now a.limit a.hashes.now a.lengths.now a.rates.now a.sets.now (sym c.if-not-is_listed.ensures) (sym c.if-is_malformed.ensures) c.if-has_faulty_set.ensures
+    c.if-store-lengths.false c.if-room-many.false a.store.wide fit c.if-over_room.ensures
 
 pub returns : goal.returns
 returns c =
     let a = c.args in
-    let fit = fit_is a.w a.hashes.now a.lengths.now a.rates.now a.sets.now (sym c.if-is_malformed.ensures) c.requires.0 c.requires.1
-    (omega (arith, c.if-refs-lengths.false, few-rows a.w a.refs.now a.posts.now a.stops.now (omega (arith, c.requires.0)) (sym c.if-not-is_listed.ensures)))
+    let fit = fit_is a.store.width a.hashes.now a.lengths.now a.rates.now a.sets.now (sym c.if-is_malformed.ensures) a.store.wide c.requires
+    (omega (arith, c.if-store-lengths.false, few-rows a.store.width a.store.refs.now a.store.posts.now a.store.stops.now (omega (arith, a.store.wide)) (sym c.if-not-is_listed.ensures)))
     (λ i. omega (arith, c.type_inv.hashes i)) in
-    at-none a.w a.refs.now a.posts.now a.stops.now a.limit a.hashes.now a.lengths.now a.rates.now a.sets.now (sym c.if-not-is_listed.ensures) (sym c.if-is_malformed.ensures) c.if-has_faulty_set.ensures
-    c.if-refs-lengths.false c.if-posts-w.false c.requires.0 fit c.if-over_room.ensures
+    at-none a.store.width a.store.refs.now a.store.posts.now a.store.stops.now a.limit a.hashes.now a.lengths.now a.rates.now a.sets.now (sym c.if-not-is_listed.ensures) (sym c.if-is_malformed.ensures) c.if-has_faulty_set.ensures
+    c.if-store-lengths.false c.if-room-many.false a.store.wide fit c.if-over_room.ensures
