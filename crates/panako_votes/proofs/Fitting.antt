@@ -1,4 +1,5 @@
 -- Whether the votes fit: each posting met gives none or one. Assumes nothing.
+use Rattle.std.specs.Prelude.{Option, Some, None}
 use mathlib.Core.Path.{◌≡◌, sym, ◌∙◌}
 use mathlib.Core.Bool.{true, false}
 use mathlib.Core.List.{List, [], ◌∷◌, map}
@@ -15,15 +16,14 @@ use Rattle.lists.proofs.Tests.{test}
 use Rattle.query_search.specs.Starts.{met}
 use Rattle.panako_vote.specs.Votes.{vote_on}
 use Rattle.panako_vote.specs.declared.ScaleGrid.{ScaleGrid}
-use Rattle.panako_vote.specs.declared.Vote as of_pair
-use Rattle.panako_vote.specs.declared.Vote.TheVariants.{Nothing, At}
+use Rattle.panako_vote.specs.declared.Vote.{Vote}
 use Rattle.query_search.specs.Gathered.{words_by, words_of, words_from}
 use Rattle.panako_vote.specs.Words.{as_list, word_of}
 use Rattle.panako_votes.specs.Gathered.{pair_words, vote_count}
 
-one_at_most : (id : ℕ) (v : of_pair.Vote) → length (map (word_of id) (as_list v)) ≤ 1
-one_at_most id Nothing = omega arith
-one_at_most id (At bin offset) = omega arith
+one_at_most : (id : ℕ) (v : Option Vote) → length (map (word_of id) (as_list v)) ≤ 1
+one_at_most id None = omega arith
+one_at_most id (Some v) = omega arith
 
 each-one : (f : List ℕ → List ℤ) → ((e : List ℕ) → length (f e) ≤ 1) → (es : List (List ℕ)) → length (words_by f es) ≤ length es
 unfolding words_by flat

@@ -7,8 +7,8 @@ use Prim.Native.Nat.{ℕ, zero, suc, ◌+◌, ◌*◌, ◌-◌, ◌≤◌, ◌<�
 use native.Mathlib.Nat.{eq-or-lt_of_le}
 use native.Mathlib.Omega.{arith}
 use lib.IntN.{ℤ}
-use lib.ListN.{length, get_or, set}
-use lib.Seq.{get_or-set_same, get_or-set_other}
+use lib.ListN.{length, get_or, set, take}
+use lib.Seq.{get_or-set_same, get_or-set_other, get_or-take, length-take-le}
 use lib.Dec.{ltb}
 use borrow.Author.Tests.{ltb-true, ltb-false, lt-ltb}
 use Rattle.lists.specs.Lists.{flat}
@@ -21,7 +21,6 @@ use Rattle.query_search.specs.Starts.{Starts, Ends, Sought}
 use Rattle.query_search.proofs.Meeting.{under-many}
 use Rattle.query_search.proofs.Walks.{none_of}
 use Rattle.panako_vote.specs.declared.ScaleGrid.{ScaleGrid}
-use Rattle.query_search.specs.declared.Voters.{Voters}
 use Rattle.query_search.specs.Gathered.{words_by}
 use Rattle.query_search.specs.Voting.{voting}
 use Rattle.query_search.proofs.Voting.{under-voting, voting-none}
@@ -85,9 +84,21 @@ module _ (starts ends : List ℕ) where
         meets = each (λ (j t : ℕ). get_or starts t 0 < get_or ends t 0) L.meets (λ h. h);
       }
 
+-- those listed alone
+pub listed-front : (starts ends which l : List ℕ) (m k : ℕ) → Listed starts ends which m k → k ≤ length which → l ≡ take k which → Listed starts ends l m (length l)
+listed-front starts ends which l m k L h e =
+    let n : length l ≡ k = ap length e ∙ length-take-le k which h in
+    let w = λ (j : ℕ) (lt : j < length l). ap (λ (x : List ℕ). get_or x j 0) e ∙ get_or-take k which j 0 (omega (arith, n)) in
+    record {
+      number = n ∙ L.number;
+      place = λ j lt. rw (w j lt) (L.place j (omega (arith, n)));
+      rank = λ j lt. rw (w j lt) (L.rank j (omega (arith, n)));
+      meets = λ j lt. rw (w j lt) (L.meets j (omega (arith, n)));
+    }
+
 -- ---- the walk over those listed
 
-module _ (g : ScaleGrid) (vs : Voters) (rs ps : List ℕ) (p : ℕ) (hs : List ℕ) (m : ℕ) (starts ends : List ℕ) where
+module _ (g : ScaleGrid) (vs : ℕ) (rs ps : List ℕ) (p : ℕ) (hs : List ℕ) (m : ℕ) (starts ends : List ℕ) where
   -- the words l are the v votes of the hashes before some place, of which j meet a posting
   pub record Walked (l : List ℤ) (v j : ℕ) : Type 0 where
     pub place : ℕ

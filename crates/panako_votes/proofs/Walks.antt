@@ -14,16 +14,15 @@ use Rattle.maps.specs.Entries.{first_at}
 use Rattle.maps.proofs.Entries.{first-le, part_length, part-entries}
 use Rattle.query_search.proofs.Meeting.{under-many}
 use Rattle.panako_vote.specs.declared.ScaleGrid.{ScaleGrid}
-use Rattle.query_search.specs.declared.Voters.{Voters}
-use Rattle.query_search.specs.Gathered.{words_by, words_of}
+use Rattle.query_search.specs.Gathered.{words_by, words_of, Ids}
 use Rattle.query_search.specs.Voting.{voting, if_voting, HasRow, Rowed}
 use Rattle.query_search.proofs.Voting.{under-voting, words-voting, rowed-at, rowed-part}
-use Rattle.query_search.proofs.Walks.{part-many, given-none, given-count, given-longer, firsts, firsts-all, firsts-none, firsts_more, firsts-longer}
+use Rattle.query_search.proofs.Walks.{part-many, part-ids, given-none, given-count, given-longer, firsts, firsts-all, firsts-none, firsts_more, firsts-longer}
 use Rattle.panako_votes.specs.Gathered.{words_with, pair_words, words, words_on}
 
 -- ---- the first query hashes
 
-module _ (g : ScaleGrid) (vs : Voters) (rs ps : List ℕ) (p : ℕ) (hs : List ℕ) where
+module _ (g : ScaleGrid) (vs : ℕ) (rs ps : List ℕ) (p : ℕ) (hs : List ℕ) where
   -- the postings that vote
   abbrev pub es : List (List ℕ)
   es = voting vs rs (entries 5 p ps)
@@ -89,9 +88,6 @@ module _ (g : ScaleGrid) (vs : Voters) (rs ps : List ℕ) (p : ℕ) (hs : List �
     }
 
     module _ (v j : ℕ) (C : Counting room i qa qc part n v j) where
-      pub counting-room : 5 * n ≤ length part
-      counting-room = omega (arith, C.many, part_length ps 5 p (get_or hs (4 * i) 0) fit, ap length C.part-is)
-
       -- all of the part
       held : entries 5 n part ≡ under key_of (get_or hs (4 * i) 0) (entries 5 p ps)
       held = rw (C.many, C.part-is) (part-entries ps 5 p (get_or hs (4 * i) 0) fit)
@@ -102,15 +98,15 @@ module _ (g : ScaleGrid) (vs : Voters) (rs ps : List ℕ) (p : ℕ) (hs : List �
           ∙ ap (λ (l : List (List ℕ)). words_on g qa qc l) (ap (voting vs rs) held ∙ sym (under-voting vs rs (get_or hs (4 * i) 0) (entries 5 p ps)))
           ∙ ap₂ (λ (a b : ℕ). words_on g a b (under key_of (get_or hs (4 * i) 0) es)) C.anchor C.last
 
-      pub counting-row : Rowed rs ps 5 p → j < n → HasRow rs (get_or part (5 * j + 1) 0)
-      counting-row R lt = rowed-at rs part 5 n (rowed-part rs ps 5 p R part n (get_or hs (4 * i) 0) held) j lt
+      pub counting-row : Rowed rs ps 5 p → j < n → (e : List ℕ) → e ≡ entry_at 5 j part → HasRow rs (get_or e 1 0)
+      counting-row R lt e k = rw (k, entry-word 5 j part 1 (omega arith)) (rowed-at rs part 5 n (rowed-part rs ps 5 p R part n (get_or hs (4 * i) 0) held) j lt)
 
       pub counting-all : j ≡ n → v ≡ length (before (i + 1))
       counting-all k = C.counted ∙ ap (λ (t : ℕ). length (before i) + length (words_by (if_voting vs rs (words_with g qa qc)) (entries 5 t part))) k ∙ ap (λ (l : List ℤ). length (before i) + length l) whole_part ∙ sym (longer i)
 
       -- where the part ends
-      pub counting-end : keys_ascend ps 5 p ≡ true → (start : ℕ) → start ≡ first_at ps 5 p (key_at hs 4 i) → start + n ≡ first_at ps 5 p (key_at hs 4 i + 1)
-      counting-end t start k = omega (arith, C.many, under-many ps 5 p (key_at hs 4 i) t (omega arith) fit, first-le ps 5 p (key_at hs 4 i) t)
+      pub counting-end : keys_ascend ps 5 p ≡ true → (start : ℕ) → start ≡ 5 * first_at ps 5 p (key_at hs 4 i) → start + length part ≡ 5 * first_at ps 5 p (key_at hs 4 i + 1)
+      counting-end t start k = omega (arith, ap length C.part-is, part_length ps 5 p (get_or hs (4 * i) 0) fit, under-many ps 5 p (key_at hs 4 i) t (omega arith) fit, first-le ps 5 p (key_at hs 4 i) t)
 
       module _ (c : ℕ) (e : c ≡ length (if_voting vs rs (words_with g qa qc) (entry_at 5 j part))) (lt : j < n) where
         pub counting_more : v + c ≤ room → Counting room i qa qc part n (v + c) (j + 1)
@@ -131,3 +127,21 @@ module _ (g : ScaleGrid) (vs : Voters) (rs ps : List ℕ) (p : ℕ) (hs : List �
             let b = given-longer (if_voting vs rs (words_with g qa qc)) 5 part (j + 1) n (omega arith) in
             let d = before-longer (i + 1) m (omega arith) in
             omega (arith, C.counted, a, b, d, longer i, ap length whole_part)
+
+  -- ---- the part under the key of hash i
+
+  module _ (fit : 5 * p ≤ length ps) (i qa qc : ℕ) (part : List ℕ) (k : part ≡ flat (under key_of (get_or hs (4 * i) 0) (entries 5 p ps))) where
+    part-is : entries 5 (length part / 5) part ≡ under key_of (get_or hs (4 * i) 0) (entries 5 p ps)
+    part-is = rw (k, part-many 5 ps p (get_or hs (4 * i) 0) (omega arith) fit) (part-entries ps 5 p (get_or hs (4 * i) 0) fit)
+
+    pub part-rows : Rowed rs ps 5 p → Rowed rs part 5 (length part / 5)
+    part-rows R = rowed-part rs ps 5 p R part (length part / 5) (get_or hs (4 * i) 0) part-is
+
+    pub part-bits : Ids (entries 5 p ps) → Ids (entries 5 (length part / 5) part)
+    part-bits ids = rw part-is (part-ids 5 ps p (get_or hs (4 * i) 0) ids)
+
+    -- its votes
+    pub part-words : qa ≡ get_or hs (4 * i + 1) 0 → qc ≡ get_or hs (4 * i + 3) 0 → words_on g qa qc (voting vs rs (entries 5 (length part / 5) part)) ≡ at i
+    part-words ea ec =
+        ap (λ (l : List (List ℕ)). words_on g qa qc l) (ap (voting vs rs) part-is ∙ sym (under-voting vs rs (get_or hs (4 * i) 0) (entries 5 p ps)))
+        ∙ ap₂ (λ (a b : ℕ). words_on g a b (under key_of (get_or hs (4 * i) 0) es)) ea ec

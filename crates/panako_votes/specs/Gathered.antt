@@ -8,7 +8,8 @@ use Rattle.panako_vote.specs.Votes.{vote_on}
 use Rattle.panako_vote.specs.declared.ScaleGrid.{ScaleGrid}
 use Rattle.query_search.specs.Gathered.{words_by, Pairing, words_from, Ids}
 use Rattle.query_search.specs.Voting.{Rowed}
-use Rattle.panako_vote.specs.Words.{Vote, as_list, word_of}
+use Rattle.panako_vote.specs.declared.Vote.{Vote}
+use Rattle.panako_vote.specs.Words.{as_list, word_of}
 
 -- the votes, none or one, of a query hash with t_anchor qa and t_c qc and the posting e; their words
 abbrev pub votes_with : ScaleGrid → ℕ → ℕ → List ℕ → List Vote

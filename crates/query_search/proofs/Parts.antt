@@ -18,8 +18,12 @@ default [] i d e h = absurd (omega arith)
 default (x ∷ l) zero d e h = refl
 default (x ∷ l) (suc i) d e h = default l i d e (omega arith)
 
+-- chunk i of a part is its entry i
+pub chunk-at : (w n : ℕ) (s : List ℕ) (l : List (List ℕ)) (i : ℕ) → l ≡ first_chunks w n s → i < n → get_or l i [] ≡ entry_at w i s
+chunk-at w n s l i el lt = ap (λ (k : List (List ℕ)). get_or k i []) (el ∙ chunks-are w n s) ∙ entries_at w n s i lt
+
 pub chunk_is : (w n : ℕ) (s : List ℕ) (l : List (List ℕ)) (i : ℕ) (e : List ℕ) → l ≡ first_chunks w n s → i < n → i < length l → e ≡ get_or l i e → e ≡ entry_at w i s
-chunk_is w n s l i e el lt ll ee = ee ∙ default l i e [] ll ∙ ap (λ (k : List (List ℕ)). get_or k i []) (el ∙ chunks-are w n s) ∙ entries_at w n s i lt
+chunk_is w n s l i e el lt ll ee = ee ∙ default l i e [] ll ∙ chunk-at w n s l i el lt
 
 module _ (vs : ℕ) (rs part : List ℕ) (w n : ℕ) (f : List ℕ → List ℤ) where
   abbrev given : ℕ → List ℤ
