@@ -29,12 +29,15 @@ use Rattle.rows.specs.References.{CountsOf, header_put}
 use Rattle.soundness.specs.Scan.{words}
 use Rattle.remove.specs.Erasing.{vacated, others, others_left, Erasable}
 use Rattle.remove.proofs.Runs.{remove-live, erasable, header-there}
+use Rattle.std.specs.Prelude.{Result, Ok, Err}
+use Rattle.refusals.specs.declared.Refusal.{Refusal}
+use Rattle.refusals.specs.Numbers.{number_of}
 use Rattle.insert.specs.declared.Plan.{Plan}
 use Rattle.insert.specs.Planned.{Plannable, Planned, PlannedIn}
 use Rattle.insert.specs.Writing.{recorded, id_in, postings_in, Writable}
 use Rattle.insert.specs.Insert.{no_row, Ready}
 use Rattle.insert.proofs.Admission.{plannable}
-use Rattle.insert.proofs.Admitted.{plan-left, plan-refuses, plan-allows, plan-stores}
+use Rattle.insert.proofs.Admitted.{plan-left, plan-refuses, plan-order, plan-overs, plan-allows, plan-stores}
 use Rattle.replace.specs.Replace.{Replaceable}
 
 module _ (w : ℕ) (rs ps ss hashes : List ℕ) (id : ℕ) (D : Replaceable w (words rs ps ss) hashes id) where
@@ -113,30 +116,36 @@ module _ (w : ℕ) (rs ps ss hashes : List ℕ) (id : ℕ) (D : Replaceable w (w
 
     -- ---- the plan that left the old take out
 
-    module _ (limit rate : ℕ) (h : Counts) (c : CountsOf rs h) (order : List ℤ) (overs : List ℕ) (r : Plan)
+    module _ (limit rate : ℕ) (h : Counts) (c : CountsOf rs h) (order : List ℤ) (overs : List ℕ) (r : Result Plan Refusal)
         (P : Planned w limit (length ps / w) (length ss) (staying w h.postings 1 (id ∷ []) ps) (take h.stopped ss) hashes order overs r) where
       planned : PlannedIn w limit (words rs' ps' ss) hashes order overs r
       planned =
           plan-left h.postings id ps rs' ps' ss
           (entries-left ∙ ap (λ (p : ℕ). staying w p 1 (id ∷ []) ps) (sym c.postings)) (ap length ep ∙ length_retained w (get_or rs 2 0) 1 (id ∷ []) ps may-erase.held) (stopped-left ∙ sym c.stopped) P
 
-      pub swap-refused : (r.number ≡ 0 → ⊥) → run_replace w (words rs ps ss) id limit rate hashes ≡ (refused r.number, words rs ps ss)
-      swap-refused n =
-          replace-refused w w2 m (words rs' ps' ss) id limit rate hashes gone r.number
+      pub swap-refused : (e : Refusal) → r ≡ Err e → run_replace w (words rs ps ss) id limit rate hashes ≡ (refused (number_of e), words rs ps ss)
+      swap-refused e q =
+          replace-refused w w2 m (words rs' ps' ss) id limit rate hashes gone (number_of e)
           (ap (λ (s : ℕ). (run_insert w (words rs' ps' ss) limit rate s hashes).0) (sym set_word)
-          ∙ ap (λ (o : Answer × Words). o.0) (plan-refuses rate ready planned n))
+          ∙ ap (λ (o : Answer × Words). o.0) (plan-refuses rate ready planned e q))
 
-      module _ (n : r.number ≡ 0) where
-        pub may_write : Writable w rs' ps' ss hashes order r.hashes overs r.keys
-        may_write = plan-allows rate ready planned n
+      module _ (p : Plan) (q : r ≡ Ok p) where
+        pub order-fits : p.hashes ≤ length order
+        order-fits = plan-order rate ready planned p q
+
+        pub overs-fit : p.keys ≤ length overs
+        overs-fit = plan-overs rate ready planned p q
+
+        pub may_write : Writable w rs' ps' ss hashes (take p.hashes order) (length (take p.hashes order)) (take p.keys overs) (length (take p.keys overs))
+        may_write = plan-allows rate ready planned p q
 
         pub swap-stored : (set j : ℕ) (rs'' ps'' ss'' : List ℕ) → set ≡ row_word rs id at_set → j ≡ id_in rs'
             → rs'' ≡ recorded rs' (get_or rs' 0 0) (get_or rs' 1 0) (id_in rs') (canonical rate) (cond (has_rmax w) (largest_anchor (hashes_of w hashes)) 0) set
-            (length (postings_in w rs' ps' hashes order r.hashes overs r.keys)) (get_or rs' 3 0 + r.keys)
-            → ps'' ≡ padded (length ps') (flat (postings_in w rs' ps' hashes order r.hashes overs r.keys))
-            → ss'' ≡ padded (length ss) (place_all (λ y. y) (take r.keys overs) (take (get_or rs' 3 0) ss))
+            (length (postings_in w rs' ps' hashes (take p.hashes order) (length (take p.hashes order)) (take p.keys overs) (length (take p.keys overs)))) (get_or rs' 3 0 + length (take p.keys overs))
+            → ps'' ≡ padded (length ps') (flat (postings_in w rs' ps' hashes (take p.hashes order) (length (take p.hashes order)) (take p.keys overs) (length (take p.keys overs))))
+            → ss'' ≡ padded (length ss) (place_all (λ y. y) (take (length (take p.keys overs)) (take p.keys overs)) (take (get_or rs' 3 0) ss))
             → (stored j, words rs'' ps'' ss'') ≡ run_replace w (words rs ps ss) id limit rate hashes
         swap-stored set j rs'' ps'' ss'' o e a b d =
-            let s = plan-stores rate ready planned n j rs'' ps'' ss'' e (rw o at a) b d
+            let s = plan-stores rate ready planned p q j rs'' ps'' ss'' e (rw o at a) b d
             ∙ ap (λ (s : ℕ). run_insert w (words rs' ps' ss) limit rate s hashes) set_word in
             s ∙ sym (replace-stored w w2 m (words rs' ps' ss) id limit rate hashes gone j (sym (ap (λ (o : Answer × Words). o.0) s)))

@@ -8,8 +8,8 @@ ghost use Rattle.soundness.specs.Scan.{words};
 ghost use Rattle.insert.specs.Insert.{insertion_answer};
 ghost use Rattle.replace.specs.Replace.{Replaceable};
 
-use insert::Insertion;
-use slices::size;
+use refusals::Refusal;
+use soundness::Store;
 
 // A replacement in a sound store in which id is live, by a fingerprint that is well formed. The old take has `own` postings, and `list` names the first of
 // them. Whether there is room is known before the first write.
@@ -24,17 +24,17 @@ fn swap(
     limit: u32,
     own: usize,
     list: &mut [u32],
-) -> Insertion
+) -> Result<u32, Refusal>
     requires replaceable { Replaceable w (words refs.old posts.old stops.old) hashes.now id }
     requires noted { Noted w (get_or refs.old 2 0) 1 id posts.old (get_or refs.old 2 0) list.old own × (40960 ≤ length list.old) }
     ensures { (insertion_answer result, words refs.new posts.new stops.new)
         ≡ run_replace w (words refs.old posts.old stops.old) id limit rate hashes.now }
 {
-    let set = rows::row_word(refs, size(id), rows::AT_SET);
+    let set = rows::row_word(refs, id as usize, rows::AT_SET);
     let h = rows::header(refs);
     let mut order = [0i64; 16384];
     let mut overs = [0u32; 8192];
-    let r = insert::plan_insertion(
+    let plan = insert::plan_insertion(
         &mut order,
         &mut overs,
         hashes,
@@ -45,15 +45,20 @@ fn swap(
         id,
         h.postings - own,
         limit,
-    );
-    if r.number != 0 {
-        return Insertion::Refused(r.number);
-    }
-    let listed = maps::smaller(own as u64, list.len() as u64) as usize;
-    remove::erase(refs, posts, w, id, list, listed);
+    )?;
+    remove::erase(refs, posts, w, id, list, own.min(list.len()));
     // the list has served, and its words take the new entries
-    Insertion::Stored(insert::write_recording(
-        refs, posts, stops, hashes, w, rate, set, &order, &overs, r, list,
+    Ok(insert::write_recording(
+        refs,
+        posts,
+        stops,
+        hashes,
+        w,
+        rate,
+        set,
+        &order[..plan.hashes],
+        &overs[..plan.keys],
+        list,
     ))
 }
 
@@ -67,23 +72,26 @@ pub fn replace(
     id: u32,
     rate: u32,
     limit: u32,
-) -> Insertion
+) -> Result<u32, Refusal>
     requires { (3 ≤ w) × (w ≤ 5) }
     ensures { (insertion_answer result, words refs.new posts.new stops.new)
         ≡ run_replace w (words refs.old posts.old stops.old) id limit rate hashes.now }
 {
     let mut list = [0u32; 40960];
-    let found = soundness::refusal_listing(refs, posts, stops, w, id, &mut list);
-    if found.number != 0 {
-        return Insertion::Refused(found.number);
-    }
+    let store = Store {
+        refs,
+        posts,
+        stops,
+        width: w,
+    };
+    let own = store.listing(id, &mut list)?;
     if rows::is_malformed(hashes, w, 8192) {
-        return Insertion::Refused(3);
+        return Err(Refusal::Malformed);
     }
     if !remove::is_live(refs, id) {
-        return Insertion::Refused(10);
+        return Err(Refusal::NotLive);
     }
     swap(
-        refs, posts, stops, hashes, w, id, rate, limit, found.own, &mut list,
+        refs, posts, stops, hashes, w, id, rate, limit, own, &mut list,
     )
 }
