@@ -1,18 +1,20 @@
 -- What a turn of `mark` adds to the marks. Assumes nothing.
-use mathlib.Core.Path.{◌≡◌, refl, sym, ap₂, ◌∙◌}
+use mathlib.Core.Path.{◌≡◌, refl, sym, ap, ap₂, ◌∙◌}
 use mathlib.Core.Bool.{Bool, true, false, ◌&&◌}
 use mathlib.Core.List.{List}
 use Prim.Native.Nat.{ℕ, zero, suc, ◌+◌, ◌≤◌, ◌<◌, max}
 use native.Mathlib.Omega.{arith}
 use lib.Dec.{eqb, ltb}
-use lib.ListN.{length, get_or, set, replicate}
-use lib.Seq.{get_or-set_same, get_or-set_other}
+use lib.IntN.{ℤ, pos}
+use lib.ListN.{length, get_or, set, replicate, take, drop, length-drop}
+use lib.Seq.{get_or-set_same, get_or-set_other, get_or-take, get_or-drop, length-take-le}
 use borrow.Author.Tests.{lt-ltb, eq-eqb, ne_eqb, eqb-true, eqb-false}
 use Rattle.lists.proofs.Tests.{test}
 use Rattle.maps.specs.Sums.{sum_to, when}
 use Rattle.maps.proofs.Tests.{when-le}
-use Rattle.maps.proofs.Sums.{sum-zero, sum-next}
-use Rattle.bins.specs.Distinct.{near_place, marked}
+use Rattle.maps.proofs.Sums.{sum-zero, sum-next, sum-cong}
+use Rattle.bins.specs.Votes.{place_of, position_of, places, positions}
+use Rattle.bins.specs.Distinct.{near_place, marked, distinct_near}
 
 -- 1 where vote t is one that marks position i
 abbrev hit : ℕ → ℕ → (ℕ → ℕ) → (ℕ → ℕ) → ℕ → ℕ → ℕ
@@ -59,3 +61,30 @@ pub zeros : (k i : ℕ) → ◌≡◌ {A = ℕ} (get_or (replicate k 0) i 0) 0
 zeros zero i = refl
 zeros (suc k) zero = refl
 zeros (suc k) (suc i) = zeros k i
+
+-- ---- votes by themselves
+
+pub place-first : (s : List ℤ) (t : ℕ) → places s 0 t ≡ place_of (get_or s t (pos 0))
+unfolding places
+place-first s t = let e : 0 + t ≡ t = omega arith in ap (λ (k : ℕ). place_of (get_or s k (pos 0))) e
+
+pub position-first : (s : List ℤ) (t : ℕ) → positions s 0 t ≡ position_of (get_or s t (pos 0))
+unfolding positions
+position-first s t = let e : 0 + t ≡ t = omega arith in ap (λ (k : ℕ). position_of (get_or s k (pos 0))) e
+
+marked-same : (tol x : ℕ) (d q d' q' : ℕ → ℕ) (g : ℕ) → ((t : ℕ) → t < g → d t ≡ d' t) → ((t : ℕ) → t < g → q t ≡ q' t) → (i : ℕ) → marked tol x d q g i ≡ marked tol x d' q' g i
+unfolding marked
+marked-same tol x d q d' q' g ed eq i =
+    ap (λ (n : ℕ). when (ltb 0 n) 1)
+    (sum-cong (hit tol x d q i) (hit tol x d' q' i) g (λ t h. ap₂ (λ (p y : ℕ). when (eqb p i && near_place tol x y) 1) (eq t h) (ed t h)))
+
+-- the g votes from word a on, in a slice of their own
+pub near-part : (s : List ℤ) (a g tol x m : ℕ) → a + g ≤ length s
+    → distinct_near tol x (places (take g (drop a s)) 0) (positions (take g (drop a s)) 0) (length (take g (drop a s))) m ≡ distinct_near tol x (places s a) (positions s a) g m
+unfolding distinct_near places positions
+near-part s a g tol x m h =
+    let n : length (take g (drop a s)) ≡ g = length-take-le g (drop a s) (omega (arith, length-drop a s)) in
+    let at : (t : ℕ) → t < g → get_or (take g (drop a s)) (0 + t) (pos 0) ≡ get_or s (a + t) (pos 0) = λ t k.
+    let e : 0 + t ≡ t = omega arith in
+    rw e (get_or-take g (drop a s) t (pos 0) k ∙ get_or-drop a s t (pos 0)) in
+    rw n (sum-cong _ _ m (λ i k. marked-same tol x _ _ _ _ g (λ t l. ap place_of (at t l)) (λ t l. ap position_of (at t l)) i))

@@ -1,9 +1,9 @@
 // Votes as words, sorted: where a run ends, run-length bins, distinct query positions.
 #![tactic(auto)]
 
-ghost use Rattle.std.specs.Prelude.{◌≡◌, ℕ, ◌+◌, ◌%◌, ◌≤◌, ◌<◌, ◌^◌, max, pos, length, get_or};
-ghost use Rattle.maps.specs.Sums.{sum_to, when};
-ghost use Rattle.bins.specs.Votes.{packed, above, lead_of, places, positions, Run};
+ghost use Rattle.std.specs.Prelude.{◌≡◌, ℕ, ◌+◌, ◌%◌, ◌≤◌, ◌<◌, ◌^◌, pos, length, get_or};
+ghost use Rattle.maps.specs.Sums.{sum_to};
+ghost use Rattle.bins.specs.Votes.{packed, lead_of, place_of, position_of, places, positions, Run};
 ghost use Rattle.bins.specs.Codes.{code_in, codes_in, Fits, width, Group, occupied, offset_words, bin_words, bins_of, stored};
 ghost use Rattle.bins.specs.Distinct.{near_place, marked, distinct_near};
 
@@ -25,67 +25,48 @@ pub fn pack(id: u64, place: u64, position: u64) -> u64
     (id << 44) + (place << 11) + position
 }
 
-// How far x lies above -low, 0 where it lies below.
-fn above_low(x: i64, low: u64) -> u64
-    requires { low ≤ 2 ^ 63 }
-    ensures { result ≡ above low x }
-{
-    if 0 <= x {
-        return low + (x as u64);
+// What tells words apart that are votes: how far a word lies above -low, 0 where it lies below, without its last `bits` bits.
+#[derive(Clone, Copy)]
+pub struct Lead {
+    pub low: u64,
+    pub bits: u32,
+    ghost fits: { (low ≤ 2 ^ 63) × (bits < 64) },
+}
+
+impl Lead {
+    pub fn of(self, word: i64) -> u64
+        ensures { result ≡ lead_of self.low self.bits word }
+    {
+        self.low.saturating_add_signed(word) >> self.bits
     }
-    let m = (-1 - x) as u64;
-    if m < low {
-        return low - m - 1;
-    }
-    0
-}
 
-// How far word i lies above -low. Where low is 0 it is the natural number in the word.
-pub fn word_above(s: &[i64], i: usize, low: u64) -> u64
-    requires { (i < length s.now) × (low ≤ 2 ^ 63) }
-    ensures { result ≡ above low (get_or s.now i (pos 0)) }
-{
-    above_low(s[i], low)
-}
-
-// The same without its last bits.
-pub fn lead_at(s: &[i64], i: usize, low: u64, bits: u32) -> u64
-    requires { (i < length s.now) × (low ≤ 2 ^ 63) × (bits < 64) }
-    ensures { result ≡ lead_of low bits (get_or s.now i (pos 0)) }
-{
-    word_above(s, i, low) >> bits
-}
-
-// Where the run of words ends, from i on and below e, that are alike without their last bits.
-pub fn lead_run_end(s: &[i64], i: usize, e: usize, low: u64, bits: u32) -> usize
-    requires { (i < e) × (e ≤ length s.now) × (low ≤ 2 ^ 63) × (bits < 64) }
-    ensures { Run (λ (t : ℕ). lead_of low bits (get_or s.now t (pos 0))) i e result }
-{
-    let x = lead_at(s, i, low, bits);
-    let mut r = i + 1;
-    while r < e {
-        if lead_at(s, r, low, bits) != x {
-            return r;
+    // Where the run of words ends, from i on and below e, that have the same lead.
+    pub fn run_end(self, s: &[i64], i: usize, e: usize) -> usize
+        requires { (i < e) × (e ≤ length s.now) }
+        ensures { Run (λ (t : ℕ). lead_of self.low self.bits (get_or s.now t (pos 0))) i e result }
+    {
+        let x = self.of(s[i]);
+        for r in i + 1..e {
+            if self.of(s[r]) != x {
+                return r;
+            }
         }
-        r += 1;
+        e
     }
-    r
 }
 
-// The place of the vote t words after a.
-fn place_at(s: &[i64], a: usize, t: usize) -> u64
-    requires { a + t < length s.now }
-    ensures { (result ≡ places s.now a t) × (result < 2 ^ 33) }
+// The place of a Wang vote.
+fn place_of(vote: i64) -> u64
+    ensures { (result ≡ place_of vote) × (result < 2 ^ 33) }
 {
-    lead_at(s, a + t, 0, 11) % 0x2_0000_0000
+    0u64.saturating_add_signed(vote) / 2048 % 0x2_0000_0000
 }
 
 // Its query position.
-fn position_at(s: &[i64], a: usize, t: usize) -> usize
-    requires { a + t < length s.now }
-    ensures { (result ≡ positions s.now a t) × (result < 2048) }
+fn position_of(vote: i64) -> usize
+    ensures { (result ≡ position_of vote) × (result < 2048) }
 {
-    (word_above(s, a + t, 0) % 2048) as usize
+    (0u64.saturating_add_signed(vote) % 2048) as usize
 }
 
 // The last `size` bits of x.
@@ -97,12 +78,25 @@ fn last_bits(x: u64, size: u32) -> u64
     x & (unit - 1)
 }
 
-// The code of the vote in word i.
-pub fn code_at(s: &[i64], i: usize, f: Form) -> u64
-    requires { (i < length s.now) × Fits f }
-    ensures { (result ≡ code_in f (get_or s.now i (pos 0))) × (result < 2 ^ 52) }
-{
-    last_bits(lead_at(s, i, f.low, f.bits), f.size)
+impl Form {
+    // What a word has above its last bits.
+    pub fn lead(self) -> Lead
+        requires { Fits self }
+        ensures { (result.low ≡ self.low) × (result.bits ≡ self.bits) }
+    {
+        Lead {
+            low: self.low,
+            bits: self.bits,
+        }
+    }
+
+    // The code of the vote in a word.
+    pub fn code_of(self, word: i64) -> u64
+        requires { Fits self }
+        ensures { (result ≡ code_in self word) × (result < 2 ^ 52) }
+    {
+        last_bits(self.lead().of(word), self.size)
+    }
 }
 
 // An offset, x above -middle, and its count.
@@ -110,9 +104,7 @@ fn put_offset(s: &mut [i64], j: usize, x: u64, count: u64, middle: u64)
     requires { (j + 1 < length s.old) × (x < 2 ^ 52) × (count < 2 ^ 63) × (middle < 2 ^ 40) }
     ensures { s.new ≡ stored s.old j (offset_words middle x count) }
 {
-    let y = x as i64;
-    let t = middle as i64;
-    s[j] = y - t;
+    s[j] = x as i64 - middle as i64;
     maps::put_word(s, j + 1, count);
 }
 
@@ -140,9 +132,10 @@ pub fn count_sorted(s: &mut [i64], a: usize, g: usize, at: usize, f: Form, middl
     let mut i = 0;
     let mut n = 0;
     let mut j = at;
+    // It steps by runs.
     while i < g {
-        let x = code_at(s, a + i, f);
-        let r = lead_run_end(s, a + i, a + g, f.low, f.bits) - a;
+        let x = f.code_of(s[a + i]);
+        let r = f.lead().run_end(s, a + i, a + g) - a;
         j = put_bin(s, j, x, (r - i) as u64, f, middle);
         i = r;
         n += 1;
@@ -150,61 +143,44 @@ pub fn count_sorted(s: &mut [i64], a: usize, g: usize, at: usize, f: Form, middl
     n
 }
 
-// 1 where y is within tol of x, else 0.
-fn near_to(tol: u64, x: u64, y: u64) -> u8
+// Whether y is within tol of x.
+fn is_near(tol: u64, x: u64, y: u64) -> bool
     requires { (tol ≤ 65535) × (x ≤ 2 ^ 40) × (y ≤ 2 ^ 40) }
-    ensures { result ≡ when (near_place tol x y) 1 }
+    ensures { result ≡ near_place tol x y }
 {
-    if x <= y + tol {
-        if y <= x + tol {
-            return 1;
-        }
-        return 0;
-    }
-    0
+    (x <= y + tol) & (y <= x + tol)
 }
 
-fn larger(a: u8, b: u8) -> u8
-    ensures { result ≡ max a b }
+// Marks the positions of the votes whose places are within tol of x.
+fn mark(seen: &mut [u8; 2048], votes: &[i64], tol: u64, x: u64)
+    requires { (tol ≤ 65535) × (x ≤ 2 ^ 40) × ((i : ℕ) → get_or seen.old i 0 ≡ 0) × (length seen.old ≡ 2048) }
+    ensures { (i : ℕ) → i < 2048 → get_or seen.new i 0 ≡ marked tol x (places votes.now 0) (positions votes.now 0) (length votes.now) i }
 {
-    if a <= b { b } else { a }
-}
-
-// Marks the positions of the g votes from word a on whose places are within tol of x.
-fn mark(seen: &mut [u8; 2048], s: &[i64], a: usize, g: usize, tol: u64, x: u64)
-    requires { (a + g ≤ length s.now) × (tol ≤ 65535) × (x ≤ 2 ^ 40) × ((i : ℕ) → get_or seen.old i 0 ≡ 0) × (length seen.old ≡ 2048) }
-    ensures { (i : ℕ) → i < 2048 → get_or seen.new i 0 ≡ marked tol x (places s.now a) (positions s.now a) g i }
-{
-    let mut t = 0;
-    while t < g {
-        let h = near_to(tol, x, place_at(s, a, t));
-        let q = position_at(s, a, t);
-        let old = seen[q];
-        seen[q] = larger(old, h);
-        t += 1;
+    for vote in votes {
+        let h = u8::from(is_near(tol, x, place_of(*vote)));
+        let q = position_of(*vote);
+        seen[q] = seen[q].max(h);
     }
 }
 
-// How many of the first m positions are marked.
-fn count_marks(seen: &[u8; 2048], m: usize) -> u64
-    requires { (m ≤ 2048) × ((i : ℕ) → i < m → get_or seen.now i 0 ≤ 1) }
-    ensures { result ≡ sum_to (λ i. get_or seen.now i 0) m }
+// How many of the positions are marked.
+fn count_marks(seen: &[u8]) -> u64
+    requires { (i : ℕ) → i < length seen.now → get_or seen.now i 0 ≤ 1 }
+    ensures { result ≡ sum_to (λ i. get_or seen.now i 0) (length seen.now) }
 {
     let mut n: u64 = 0;
-    let mut i = 0;
-    while i < m {
-        n += slices::wide_byte(seen[i]);
-        i += 1;
+    for h in seen {
+        n += u64::from(*h);
     }
     n
 }
 
-// How many of the first m query positions have a vote, among the g from word a on, whose place is within tol of x.
-pub fn distinct_positions(s: &[i64], a: usize, g: usize, tol: u64, x: u64, m: usize) -> u64
-    requires { (a + g ≤ length s.now) × (tol ≤ 65535) × (x ≤ 2 ^ 40) × (m ≤ 2048) }
-    ensures { result ≡ distinct_near tol x (places s.now a) (positions s.now a) g m }
+// How many of the first m query positions have a vote whose place is within tol of x.
+pub fn distinct_positions(votes: &[i64], tol: u64, x: u64, m: usize) -> u64
+    requires { (tol ≤ 65535) × (x ≤ 2 ^ 40) × (m ≤ 2048) }
+    ensures { result ≡ distinct_near tol x (places votes.now 0) (positions votes.now 0) (length votes.now) m }
 {
     let mut seen = [0u8; 2048];
-    mark(&mut seen, s, a, g, tol, x);
-    count_marks(&seen, m)
+    mark(&mut seen, votes, tol, x);
+    count_marks(&seen[..m])
 }

