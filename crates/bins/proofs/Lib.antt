@@ -8,3 +8,4 @@ pub mod Occupied
 pub mod Binning
 pub mod Binned
 pub mod Marking
+pub mod Flags

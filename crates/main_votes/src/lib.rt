@@ -1,68 +1,49 @@
 // Of votes in any order, those of one recording, where the others are too few to make a candidate.
 #![tactic(auto)]
 
-ghost use Rattle.std.specs.Prelude.{◌≡◌, ◌≤◌, ◌<◌, ◌^◌, pos, length, get_or, take};
+ghost use Rattle.std.specs.Prelude.{◌≡◌, ◌≤◌, length, take};
 ghost use Rattle.lists.specs.Lists.{keep};
-ghost use Rattle.maps.specs.Sums.{when};
 ghost use Rattle.maps.specs.Lists.{count_if};
 ghost use Rattle.main_votes.specs.Main.{has_lead, main_of};
 
-// 1 where word i without its last bits is `lead`, else 0.
-fn has_lead(s: &[i64], i: usize, low: u64, bits: u32, lead: u64) -> usize
-    requires { (i < length s.now) × (low ≤ 2 ^ 63) × (bits < 64) }
-    ensures { (result ≡ when (has_lead low bits lead (get_or s.now i (pos 0))) 1) × (result ≤ 1) }
-{
-    if bins::lead_at(s, i, low, bits) == lead {
-        1
-    } else {
-        0
-    }
-}
+use bins::Lead;
 
-// How many of the first v words are such.
-fn count_lead(s: &[i64], v: usize, low: u64, bits: u32, lead: u64) -> usize
-    requires { (v ≤ length s.now) × (low ≤ 2 ^ 63) × (bits < 64) }
-    ensures { (result ≡ count_if (has_lead low bits lead) (take v s.now)) × (result ≤ v) }
+// How many of the words have the lead x. A chain of `filter` and `count` would branch on each word.
+fn count_lead(s: &[i64], lead: Lead, x: u64) -> usize
+    ensures { (result ≡ count_if (has_lead lead.low lead.bits x) s.now) × (result ≤ length s.now) }
 {
     let mut n = 0;
-    let mut i = 0;
-    while i < v {
-        n += has_lead(s, i, low, bits, lead);
-        i += 1;
+    for word in s {
+        n += usize::from(lead.of(*word) == x);
     }
     n
 }
 
-// Keeps those of the first v words, in their order. Yields how many they are. Each word is put down, and counts where it is kept.
-fn keep_lead(s: &mut [i64], v: usize, low: u64, bits: u32, lead: u64) -> usize
-    requires { (v ≤ length s.old) × (low ≤ 2 ^ 63) × (bits < 64) }
-    ensures { (take result s.new ≡ keep (has_lead low bits lead) (take v s.old)) × (result ≤ v) }
+// Keeps those, in their order. Yields how many they are. Each word is put down, and counts where it is kept.
+fn keep_lead(s: &mut [i64], lead: Lead, x: u64) -> usize
+    ensures { (take result s.new ≡ keep (has_lead lead.low lead.bits x) s.old) × (result ≤ length s.old) }
 {
     let mut n = 0;
-    let mut i = 0;
-    while i < v {
-        let more = has_lead(s, i, low, bits, lead);
-        let w = s[i];
-        s[n] = w;
+    for i in 0..s.len() {
+        let word = s[i];
+        let more = usize::from(lead.of(word) == x);
+        s[n] = word;
         n += more;
-        i += 1;
     }
     n
 }
 
-// Of the first v words, keeps those that are as the first without their last bits, where the others are fewer than `least`; else all. Yields how many
-// are kept.
-pub fn keep_main(s: &mut [i64], v: usize, low: u64, bits: u32, least: u64) -> usize
-    requires { (v ≤ length s.old) × (low ≤ 2 ^ 63) × (bits < 64) }
-    ensures { (take result s.new ≡ main_of low bits least (take v s.old)) × (result ≤ v) }
+// Keeps the words that have the first one's lead, where the others are fewer than `least`; else all. Yields how many are kept.
+pub fn keep_main(s: &mut [i64], lead: Lead, least: u64) -> usize
+    ensures { (take result s.new ≡ main_of lead.low lead.bits least s.old) × (result ≤ length s.old) }
 {
-    if v == 0 {
+    if s.is_empty() {
         return 0;
     }
-    let lead = bins::lead_at(s, 0, low, bits);
-    let others = (v - count_lead(s, v, low, bits, lead)) as u64;
+    let x = lead.of(s[0]);
+    let others = (s.len() - count_lead(s, lead, x)) as u64;
     if (0 < others) & (others < least) {
-        return keep_lead(s, v, low, bits, lead);
+        return keep_lead(s, lead, x);
     }
-    v
+    s.len()
 }
