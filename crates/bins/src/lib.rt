@@ -3,7 +3,7 @@
 
 ghost use Rattle.std.specs.Prelude.{◌≡◌, ℕ, ◌+◌, ◌%◌, ◌≤◌, ◌<◌, ◌^◌, pos, length, get_or};
 ghost use Rattle.maps.specs.Sums.{sum_to};
-ghost use Rattle.bins.specs.Votes.{packed, lead_of, place_of, position_of, places, positions, Run};
+ghost use Rattle.bins.specs.Votes.{packed, above, lead_of, place_of, position_of, places, positions, Run};
 ghost use Rattle.bins.specs.Codes.{code_in, codes_in, Fits, width, Group, occupied, offset_words, bin_words, bins_of, stored};
 ghost use Rattle.bins.specs.Distinct.{near_place, marked, distinct_near};
 
@@ -25,6 +25,22 @@ pub fn pack(id: u64, place: u64, position: u64) -> u64
     (id << 44) + (place << 11) + position
 }
 
+// How far x lies above -low, 0 where it lies below. Of `low.saturating_add_signed(x)` LLVM doesn't see that no sum is too large: it
+// takes twice as long.
+fn above_low(x: i64, low: u64) -> u64
+    requires { low ≤ 2 ^ 63 }
+    ensures { result ≡ above low x }
+{
+    if 0 <= x {
+        return low + x as u64;
+    }
+    let under = (-1 - x) as u64;
+    if under < low {
+        return low - under - 1;
+    }
+    0
+}
+
 // What tells words apart that are votes: how far a word lies above -low, 0 where it lies below, without its last `bits` bits.
 #[derive(Clone, Copy)]
 pub struct Lead {
@@ -37,7 +53,7 @@ impl Lead {
     pub fn of(self, word: i64) -> u64
         ensures { result ≡ lead_of self.low self.bits word }
     {
-        self.low.saturating_add_signed(word) >> self.bits
+        above_low(word, self.low) >> self.bits
     }
 
     // Where the run of words ends, from i on and below e, that have the same lead.
@@ -59,14 +75,14 @@ impl Lead {
 fn place_of(vote: i64) -> u64
     ensures { (result ≡ place_of vote) × (result < 2 ^ 33) }
 {
-    0u64.saturating_add_signed(vote) / 2048 % 0x2_0000_0000
+    vote.max(0) as u64 / 2048 % 0x2_0000_0000
 }
 
 // Its query position.
 fn position_of(vote: i64) -> usize
     ensures { (result ≡ position_of vote) × (result < 2048) }
 {
-    (0u64.saturating_add_signed(vote) % 2048) as usize
+    (vote.max(0) as u64 % 2048) as usize
 }
 
 // The last `size` bits of x.
