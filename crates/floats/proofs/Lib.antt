@@ -7,3 +7,4 @@ pub mod Away
 pub mod Whole
 pub mod Numbers
 pub mod Order
+pub mod Rounded
