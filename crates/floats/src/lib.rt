@@ -1,5 +1,5 @@
-// The float operations of Rust's core that `matching` and the indexes use and that the language
-// lacks. Each contract is an equation with a term of `lib.Ieee` or with a definition of `specs/`.
+// The float operations of Rust's core that the C interface names, and faster ones for the votes of the
+// indexes. Each contract is an equation with a term of `lib.Ieee` or with a definition of `specs/`.
 #![tactic(auto)]
 
 ghost use Rattle.std.specs.Prelude.{◌≡◌, ◌^◌, ◌<◌, ◌≤◌, true, false, T, pos, negsuc, if◌then◌else◌};
@@ -25,6 +25,7 @@ fn nearest_part(n: u64, cut: u32) -> u64
 // Rust's `n as f32`: the nearest `f32`, ties to even. The count of leading zeros finds the exponent,
 // and says how many of n's digits an `f32` has no room for. Those are cut off. The others, the leading
 // one among them, are added to the exponent's field; where they round up to 2^24 they carry into it.
+// The library's `nearest_u64_to_f32` takes three times as long on a number below 2^24, as counts of votes are.
 pub fn u64_to_f32(n: u64) -> f32
     ensures { result ≡ Ieee.of_int binary32 (pos n) }
 {
@@ -101,7 +102,7 @@ pub fn round_small_to_i64(x: f64) -> i64
     ensures { result ≡ Rounding.round_to_i64 x }
 {
     let n = small_half_up(magnitude(x)) as i64;
-    if x < 0.0 { 0 - n } else { n }
+    if x < 0.0 { -n } else { n }
 }
 
 // Rust's `x as f32`: the nearest `f32`, ties to even.
