@@ -50,7 +50,7 @@ fn search(posts: &[u32], w: usize, from: usize, to: usize, key: u64) -> usize
     let mut lo = from;
     let mut hi = to;
     while lo < hi {
-        let mid = lo + ((hi - lo) >> 1);
+        let mid = lo + (hi - lo) / 2;
         if u64::from(key_at(posts, w, mid)) < key {
             lo = mid + 1;
         } else {
@@ -119,19 +119,12 @@ pub fn part_at(posts: &[u32], w: usize, p: usize, a: u32, key: u32) -> &[u32]
     &posts[w * from..w * e]
 }
 
-// The natural number in a word, 0 where the word is negative.
-fn natural(x: i64) -> u64
-    ensures { (result ≡ nat_of x) × (result < 2 ^ 63) }
-{
-    u64::try_from(x).unwrap_or(0)
-}
-
-// The natural number in word i.
+// The natural number in word i, 0 where the word is negative.
 pub fn word_at(s: &[i64], i: usize) -> u64
     requires { i < length s.now }
     ensures { (result ≡ nat_of (get_or s.now i (pos 0))) × (result < 2 ^ 63) }
 {
-    natural(s[i])
+    u64::try_from(s[i]).unwrap_or(0)
 }
 
 // Stores a natural number in word i.
