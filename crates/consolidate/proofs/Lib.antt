@@ -7,3 +7,4 @@ pub mod Spans
 pub mod Peaks
 pub mod Checks
 pub mod Facts
+pub mod Ranges

@@ -1,19 +1,26 @@
 -- A quotient toward zero is the ceiling where the number is not above zero. Assumes nothing.
-use Prim.Native.Nat.{ℕ, suc, ◌+◌, ◌-◌, ◌/◌, ◌≤◌, ◌<◌}
+use Prim.Native.Nat.{ℕ, suc, ◌+◌, ◌-◌, ◌/◌, ◌%◌, ◌≤◌, ◌<◌, min}
 use mathlib.Core.Path.{◌≡◌, refl, sym, ap, ◌∙◌}
 use mathlib.Core.Bool.{true, false}
 use native.Mathlib.Omega.{arith}
-use native.Mathlib.Nat.{div-le_self, div-eq_of_lt}
+use native.Mathlib.Nat.{div-le_self, div-eq_of_lt, div-eq_of_lt-le}
 use lib.IntN.{ℤ, pos, negsuc, nat_abs}
 use lib.Signed.{lt_z, quot_z}
+use Rattle.std.proofs.lemmas.Grind.{div_ceil_times}
 use borrow.Author.Tests.{ltb-false}
 use Rattle.signed.proofs.Sizes.{abs_neg}
 use Rattle.signed.proofs.Order.{never}
 use Rattle.consolidate.specs.Modes.{ceil}
 
-pub ceil-above : (z : ℤ) (den : ℕ) → lt_z (pos 0) z ≡ true → pos ((nat_abs z + (den - 1)) / den) ≡ ceil z den
-ceil-above (pos n) den e = refl
-ceil-above (negsuc n) den e = never e
+-- a quotient rounded up
+div_ceil-is : (a den : ℕ) → 0 < den → (a + (den - 1)) / den ≡ a / den + min 1 (a % den)
+div_ceil-is a den h =
+    let b = div_ceil_times a den h in
+    div-eq_of_lt-le {k = a / den + min 1 (a % den)} den {m = a + (den - 1)} (omega (arith, b.1)) (omega (arith, b.0))
+
+pub ceil-above : (z : ℤ) (den : ℕ) → 0 < den → lt_z (pos 0) z ≡ true → pos (nat_abs z / den + min 1 (nat_abs z % den)) ≡ ceil z den
+ceil-above (pos n) den h e = ap pos (sym (div_ceil-is n den h))
+ceil-above (negsuc n) den h e = never e
 
 pub ceil-else : (z : ℤ) (den : ℕ) → 0 < den → lt_z (pos 0) z ≡ false → quot_z z (pos den) ≡ ceil z den
 ceil-else (negsuc n) den h e = refl

@@ -88,12 +88,9 @@ fn ceil_div(num: i64, den: u64) -> i64
     ensures { result ≡ ceil num den }
 {
     if num > 0 {
-        let a = num as u64;
-        let q = (a + (den - 1)) / den;
-        return q as i64;
+        return (num as u64).div_ceil(den) as i64;
     }
-    let d = den as i64;
-    num / d
+    num / (den as i64)
 }
 
 // The whole number nearest sum / m, halves to the lower.
@@ -101,9 +98,7 @@ fn nearest_mean(sum: i64, m: u64) -> i64
     requires { (nat_abs sum ≤ 2 ^ 56) × (0 < m) × (m ≤ 2 ^ 32) }
     ensures { result ≡ nearest_mean sum m }
 {
-    let k = m as i64;
-    let num = 2 * sum - k;
-    ceil_div(num, 2 * m)
+    ceil_div(2 * sum - (m as i64), 2 * m)
 }
 
 // The mode of the bins from `from` to before `to`; none where no count is positive.
@@ -365,8 +360,7 @@ fn centre_at(low: i64, x: u64) -> i64
     requires { (nat_abs low ≤ 2 ^ 34) × (x ≤ 2 ^ 34) }
     ensures { result ≡ low +ℤ pos x }
 {
-    let y = x as i64;
-    low + y
+    low + (x as i64)
 }
 
 // The peak of the window sums of n bins over the centres from low to high. Only those centres are
@@ -399,22 +393,19 @@ fn bin_ok(s: &[i64], i: usize) -> bool
     (d.unsigned_abs() <= 8589934592) & ((v >= 0) & (v.unsigned_abs() < 4294967296))
 }
 
+fn all_bins_ok(s: &[i64], n: usize) -> bool
+    requires { 2 * n ≤ length s.now }
+    ensures { result ≡ every n (bin_ok s.now) }
+{
+    (0..n).all(|i| bin_ok(s, i))
+}
+
 // Whether `mode_offset` takes the first n bins of s.
+#[tactic(auto, unfolding(crate::specs::Limits::bins_ok))]
 pub fn bins_ok(s: &[i64], n: usize) -> bool
     ensures { result ≡ bins_ok s.now n }
 {
-    if n > 1000000 {
-        return false;
-    }
-    if 2 * n > s.len() {
-        return false;
-    }
-    for i in 0..n {
-        if !bin_ok(s, i) {
-            return false;
-        }
-    }
-    true
+    (n <= 1000000) && (2 * n <= s.len()) && all_bins_ok(s, n)
 }
 
 // Bin i is the last, or lies below the next.
@@ -442,12 +433,7 @@ fn all_in_span(s: &[i64], n: usize, low: i64, high: i64) -> bool
     requires { 2 * n ≤ length s.now }
     ensures { result ≡ every n (in_span s.now n low high) }
 {
-    for i in 0..n {
-        if !in_span(s, n, low, high, i) {
-            return false;
-        }
-    }
-    true
+    (0..n).all(|i| in_span(s, n, low, high, i))
 }
 
 // Whether the magnitudes of n words, those at `field`, `field + stride`, .., add up to at most a million.
@@ -472,19 +458,11 @@ fn ends_ok(tol: u64, low: i64, high: i64) -> bool
 }
 
 // Whether `sparse_wang_box_peak` takes these arguments.
+#[tactic(auto, unfolding(crate::specs::Limits::span_ok, crate::specs::Limits::bins_ok))]
 pub fn span_ok(s: &[i64], n: usize, tol: u64, low: i64, high: i64) -> bool
     ensures { result ≡ span_ok s.now n tol low high }
 {
-    if !bins_ok(s, n) {
-        return false;
-    }
-    if !ends_ok(tol, low, high) {
-        return false;
-    }
-    if !all_in_span(s, n, low, high) {
-        return false;
-    }
-    sum_ok(s, n, 2, 1)
+    bins_ok(s, n) && ends_ok(tol, low, high) && all_in_span(s, n, low, high) && sum_ok(s, n, 2, 1)
 }
 
 // `mode_offset` of the first n bins, for any arguments: none where they are refused.

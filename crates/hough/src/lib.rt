@@ -539,12 +539,7 @@ fn all_bins_ok(s: &[i64], n: usize) -> bool
     requires { 3 * n ≤ length s.now }
     ensures { result ≡ every n (bin_ok s.now n) }
 {
-    for i in 0..n {
-        if !bin_ok(s, n, i) {
-            return false;
-        }
-    }
-    true
+    (0..n).all(|i| bin_ok(s, n, i))
 }
 
 // Whether the leaves take the first n bins of s.

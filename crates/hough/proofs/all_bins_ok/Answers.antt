@@ -1,12 +1,16 @@
-use mathlib.Core.Path.{sym}
-use Rattle.lists.proofs.Every.{every-none, every_more, every-fail}
+use mathlib.Core.Path.{◌≡◌, refl}
+use mathlib.Core.Bool.{true, false}
+use native.Mathlib.Omega.{arith}
+use borrow.Author.Rules.{rules}
+use borrow.Author.Tests.{tests}
+use Rattle.std.proofs.lemmas.Iterator.{cases_from_all, YieldsList-from_range}
+use Rattle.consolidate.proofs.Ranges.{every-all}
+use Rattle.hough.specs.Limits.{bin_ok}
 use Rattle.hough.proofs.all_bins_ok.Goals as goal
 
-pub loop-i-init : goal.loop-i-init
-loop-i-init c = every-none _
-
-pub returns-then-not-bin_ok : goal.returns-then-not-bin_ok
-returns-then-not-bin_ok c = sym (every-fail _ _ _ c.loop-i-test.true (sym c.if-not-bin_ok.ensures))
-
-pub loop-i-preserved : goal.loop-i-preserved
-loop-i-preserved c = every_more _ _ c.loop-i.invariant (sym c.if-not-bin_ok.ensures)
+pub returns : goal.returns
+returns c =
+    let a = c.args in
+    every-all (bin_ok a.s.now a.n) a.n c.all.result
+    (cases_from_all _ _ _ (λ i. bin_ok a.s.now a.n i ≡ true) (λ i. bin_ok a.s.now a.n i ≡ false) c.all.ensures.ran
+    (YieldsList-from_range 0 a.n a.n refl (omega arith)) (λ x q k. search (rules, tests)) (λ x q k. search (rules, tests)))
