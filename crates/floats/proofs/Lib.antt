@@ -7,4 +7,3 @@ pub mod Away
 pub mod Whole
 pub mod Numbers
 pub mod Order
-pub mod Rounded

@@ -38,11 +38,35 @@ pub fn u64_to_f32(n: u64) -> f32
     f32::from_bits((cut + 149) * 0x80_0000 + (digits as u32))
 }
 
-// Rust's `x.round() as i64`: halves away from zero, held to the range, 0 for a NaN.
+// x to the nearest whole number, halves up. Doubling is exact, and the whole part of 2x says both
+// the whole part of x and whether a half is left.
+fn half_up(x: f64) -> u64
+    requires fact_1 { T (positive x) }
+    requires fact_2 { T (Ieee.lt x (fin false 1 (pos 63))) }
+    ensures { result ≡ Rounding.half_up (num x) (den x) }
+{
+    let twice: u64 = std::num::truncating_f64_to_u64(x * 2.0);
+    twice / 2 + twice % 2
+}
+
+// Rust's `x.round() as i64`: halves away from zero, held to the range, 0 for a NaN. The library's `round` and
+// saturating cast take half as long again, and `from_frames` has a bound on its time.
 pub fn round_to_i64(x: f64) -> i64
     ensures { result ≡ Rounding.round_to_i64 x }
 {
-    std::num::saturating_f64_to_i64(x.round())
+    if x >= 9223372036854775808.0 {
+        return i64::MAX;
+    }
+    if x <= -9223372036854775808.0 {
+        return i64::MIN;
+    }
+    if x > 0.0 {
+        return half_up(x) as i64;
+    }
+    if x < 0.0 {
+        return -(half_up(-x) as i64);
+    }
+    0
 }
 
 // The whole number that is nearest to some x, as a number and as a float.
