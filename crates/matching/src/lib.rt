@@ -16,15 +16,15 @@ use std::cmp::Ordering;
 fn is_rate(x: f32) -> bool
     ensures { result ≡ positive x }
 {
-    x > 0.0 && x.is_finite()
+    x > 0.0 && x < f32::INFINITY
 }
 
-// The milliseconds of so many frames, before they are rounded.
+// The milliseconds of so many frames, before they are rounded. `f64::from` would test for a NaN first, which a rate is not.
 fn milliseconds(frames: i64, frames_per_sec: f32) -> f64
     requires { positive frames_per_sec ≡ true }
     ensures { result ≡ unrounded frames frames_per_sec }
 {
-    std::num::nearest_i64_to_f64(frames) * 1000.0 / f64::from(frames_per_sec)
+    std::num::nearest_i64_to_f64(frames) * 1000.0 / (frames_per_sec as f64)
 }
 
 // Whether the number is among those of an i64. Both ends are floats.

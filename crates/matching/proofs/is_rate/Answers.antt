@@ -1,16 +1,15 @@
 -- `matching::is_rate` meets its contract. Assumes nothing.
 use Rattle.std.proofs.Common.{◌≡◌, ℕ, zero, suc, ◌*◌, ◌<◌, true, false, ltb, ℤ, pos, sym, refl, ap, ◌∙◌, subst, true≢false, zero-lt-suc, mul-pos, zero-mul, lt→ltb}
 use mathlib.Core.Bool.{false≢true}
-use lib.Ieee.{Float, nan, inf, fin, lt, of_bits, up, down}
+use lib.Ieee.{Float, nan, inf, fin, lt, div, of_bits, up, down}
 use lib.Ieee.Bits.{is_true}
 use lib.Ieee.Fits.{up_pos}
 use lib.Ieee.Positive.{positive}
-use Rattle.std.specs.Float.{float_is_finite}
 use Rattle.matching.proofs.is_rate.Goals as goal
 
--- above zero, what is finite is `positive`
-finite : (x : Float) → lt (fin false 0 (pos 0)) x ≡ true → float_is_finite x ≡ positive x
-unfolding lt float_is_finite
+-- above zero, what is below the infinity is finite
+finite : (x : Float) → lt (fin false 0 (pos 0)) x ≡ true → lt x (inf false) ≡ positive x
+unfolding lt
 finite nan h = refl
 finite (inf true) h = absurd (false≢true h)
 finite (inf false) h = refl
@@ -34,8 +33,8 @@ not-above (fin false (suc m) e) h =
     some m u d U = subst (λ (k : ℕ). k < suc m * u * 1) (sym (zero-mul d)) (mul-pos (mul-pos (zero-lt-suc m) U) (zero-lt-suc 0))
 
 pub returns-then-x : goal.returns-then-x
-unfolding of_bits
-returns-then-x c = c.is_finite.ensures.value ∙ finite c.args.x c.if-x.true
+unfolding of_bits div
+returns-then-x c = finite c.args.x c.if-x.true
 
 pub returns-else-x : goal.returns-else-x
 unfolding of_bits
