@@ -129,10 +129,6 @@ module _ {d v : ℕ → ℕ} {n tol width : ℕ} {st : State} (S : Swept d v n t
   pub swept-best : Best (window_sum d v n tol) width st.run
   swept-best = rw e at S.best
 
-  -- the best run is not empty, and lies in the span
-  pub swept-run : 0 < width → (st.run.start < st.run.end) × (st.run.end ≤ width)
-  swept-run h = (swept-best.some h, swept-best.done)
-
 pub answer : (l : List ℤ) (low : ℤ) (n tol width : ℕ) (st : State) (a asum e esum : ℕ) → Placed l low n → 0 < width
     → Swept (place l low) (votes l) n tol width st → st.at ≡ width
     → Passed (place l low) (votes l) n 0 (st.run.start - tol) a asum → Passed (place l low) (votes l) n a (st.run.end + tol) e esum

@@ -41,9 +41,6 @@ pub record Passing (d v : ℕ → ℕ) (n from below i sum : ℕ) : Type 0 where
   pub under : (k : ℕ) → from ≤ k → k < i → d k < below
   pub adds : sum + sum_to v from ≡ sum_to v i
 
-pub passing-none : (d v : ℕ → ℕ) (n from below : ℕ) → from ≤ n → Passing d v n from below from 0
-passing-none d v n from below h = record { on = omega arith; most = h; under = λ k a b. omega arith; adds = omega arith }
-
 module _ {d v : ℕ → ℕ} {n from below i sum : ℕ} (P : Passing d v n from below i sum) where
   pub passing-fits : sum_to v n ≤ 1000000 → i < n → sum + v i ≤ 1000000
   passing-fits few h = omega (arith, P.adds, sum-next v i, sum_mono v (i + 1) n (omega arith))

@@ -14,7 +14,7 @@ use mir.Val.{Fits, SFits}
 use Rattle.maps.specs.Bins.{offset, votes, place}
 use Rattle.maps.specs.Sums.{when}
 use Rattle.consolidate.specs.Box.{within, window}
-use Rattle.consolidate.specs.Limits.{Bins, Span}
+use Rattle.consolidate.specs.Limits.{Span}
 use Rattle.consolidate.specs.Windows.{withinℕ, window_sum}
 use Rattle.consolidate.specs.Sweeping.{Placed}
 use Rattle.maps.proofs.Sums.{sum-cong}
@@ -76,9 +76,6 @@ lt-le_z (negsuc a) (negsuc b) h = lt-leb a b (ltb→lt b a h)
 mag_is : (z : ℤ) → T (non_neg z) → mag z ≡ nat_abs z
 mag_is (pos n) t = refl
 mag_is (negsuc n) t = absurd t
-
-pub vote-fits : (l : List ℤ) (n : ℕ) → Bins l n → (i : ℕ) → i < n → Fits w64 (votes l i)
-vote-fits l n b i h = record { fits = omega (arith, b.small i h) }
 
 module _ (l : List ℤ) (low : ℤ) (n : ℕ) (b : Placed l low n) where
   pub place-small : (i : ℕ) → i < n → SFits w64 (offset l i -ℤ low)

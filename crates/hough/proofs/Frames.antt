@@ -117,18 +117,12 @@ module _ (l : List ℤ) (n : ℕ) (b : Bins l n) (tol i : ℕ) (T : tol ≤ 6553
       fits-abs (offset l i -ℤ pos tol) (omega (arith, abs-sub (offset l i) (pos tol), b.close i h)),
     )
 
-    pub low_fits : SFits w64 (to_z w64 (of_z w64 z) -ℤ to_z w64 tol)
-    low_fits = let r = read in rw (r.0, r.1) r.2
-
     low-is : to_z w64 (of_z w64 (to_z w64 (of_z w64 z) -ℤ to_z w64 tol)) ≡ offset l i -ℤ pos tol
     low-is = let r = read in rw (r.0, r.1) (to_z-of_z w64 (offset l i -ℤ pos tol) r.2)
 
     module _ (x : ℕ) (u : x < 2 * tol + 1) where
       frame-word : SFits w64 (frame l tol i x) × (to_z w64 x ≡ pos x)
       frame-word = (fits-abs (frame l tol i x) (omega (arith, frame-close l n b tol i T h x u)), to_z_pos w64 x (omega arith))
-
-      pub frame-fits : SFits w64 (to_z w64 (of_z w64 (to_z w64 (of_z w64 z) -ℤ to_z w64 tol)) +ℤ to_z w64 x)
-      frame-fits = rw (low-is, frame-word.1) frame-word.0
 
       pub frame_is : to_z w64 (of_z w64 (to_z w64 (of_z w64 (to_z w64 (of_z w64 z) -ℤ to_z w64 tol)) +ℤ to_z w64 x)) ≡ frame l tol i x
       frame_is = rw (low-is, frame-word.1) (to_z-of_z w64 (frame l tol i x) frame-word.0)

@@ -9,7 +9,7 @@ use lib.Signed.{non_neg, lt_z}
 use lib.Dec.{T, ltb, eqb, ltb→lt}
 use borrow.Author.Tests.{ltb-true, eqb-true, le-ltb}
 use mir.Syntax.{w64}
-use mir.Val.{Fits, SFits}
+use mir.Val.{SFits}
 use Rattle.lists.proofs.Tests.{test, or_else, and_left, and_right}
 use Rattle.maps.specs.Sums.{sum_to, when}
 use Rattle.consolidate.specs.Windows.{withinℕ, window_sum}
@@ -63,18 +63,8 @@ module _ (l : List ℤ) (n : ℕ) (b : Bins l n) where
   unfolding place
   place-small i h = fits-abs (offset l i +ℤ pos (2 ^ 40)) (omega (arith, (place-fits i h).1))
 
-  pub place-word : (i : ℕ) → i < n → Fits w64 (nat_abs (offset l i +ℤ pos (2 ^ 40)))
-  unfolding place
-  place-word i h = record { fits = omega (arith, (place-fits i h).1) }
-
-  pub scale-word : (i : ℕ) → i < n → Fits w64 (scale l i)
-  scale-word i h = record { fits = omega (arith, b.scales i h) }
-
   pub vote-small : (i : ℕ) → i < n → votes l i ≤ 1000000
   vote-small i h = omega (arith, sum-term (votes l) n i h, b.sum)
-
-  pub vote-word : (i : ℕ) → i < n → Fits w64 (votes l i)
-  vote-word i h = record { fits = omega (arith, vote-small i h) }
 
   pub inside : (i : ℕ) → i < n → Inside (place l i)
   inside i h = let p = place-fits i h in (omega (arith, p.2), omega (arith, p.1))

@@ -1,21 +1,15 @@
 -- The sums behind the bins: what writing them leaves as it was. Assumes nothing.
-use Prim.Native.Nat.{ℕ, ◌+◌, ◌*◌, ◌≤◌, ◌<◌}
+use Prim.Native.Nat.{ℕ, ◌+◌, ◌*◌, ◌<◌}
 use mathlib.Core.Path.{◌≡◌, refl, sym, ◌∙◌, ap, subst}
 use mathlib.Core.List.{List}
 use native.Mathlib.Omega.{arith}
 use lib.IntN.{ℤ, pos}
 use lib.Dec.{eqb}
 use lib.ListN.{length, get_or, take, drop, set}
-use lib.Seq.{length-take-le, get_or-set_same, get_or-set_other, take-set-le, drop-set-lt}
+use lib.Seq.{get_or-set_same, get_or-set_other, take-set-le, drop-set-lt}
 use borrow.Author.Tests.{eqb-true, eqb-false}
 use Rattle.lists.proofs.Tests.{test}
-use Rattle.hough.specs.Hough.{hough_sum}
-use Rattle.hough.specs.Limits.{Bins, Roomy, Written, Kept, WithSums}
-
--- ---- the bins
-
-pub bins-long : (s : List ℤ) (n : ℕ) → 4 * n ≤ length s → 3 * n ≡ length (take (3 * n) s)
-bins-long s n h = sym (length-take-le (3 * n) s (omega arith))
+use Rattle.hough.specs.Limits.{Bins, Roomy, Written, Kept}
 
 -- ---- one value more
 
@@ -40,11 +34,5 @@ kept_put s₀ s s' n j v h es K = record {
   rest = ap (drop (4 * n)) es ∙ drop-set-lt (4 * n) s (3 * n + j) v (omega arith) ∙ K.rest;
 }
 
-pub kept_then : (a b c : List ℤ) (n : ℕ) → Kept a b n → Kept b c n → Kept a c n
-kept_then a b c n K L = record { bins = L.bins ∙ K.bins; rest = L.rest ∙ K.rest }
-
 pub roomy-kept : (s₀ s : List ℤ) (n : ℕ) → length s ≡ length s₀ → Kept s₀ s n → Roomy s₀ n → Roomy s n
 roomy-kept s₀ s n len K R = record { bins = subst (λ (l : List ℤ). Bins l n) (sym K.bins) R.bins; room = rw len R.room }
-
-pub with-sums : (s₀ s : List ℤ) (n tol : ℕ) → Kept s₀ s n → Written (hough_sum (take (3 * n) s₀) n tol) n s (3 * n) → WithSums s₀ s n tol
-with-sums s₀ s n tol K W = record { kept = K; sums = rw K.bins W }

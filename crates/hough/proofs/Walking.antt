@@ -1,25 +1,23 @@
 -- Three windows that slide from bin to bin; the first greatest sum; the background. Assumes nothing.
 use Prim.Native.Nat.{ℕ, ◌+◌, ◌-◌, ◌*◌, ◌≤◌, ◌<◌}
 use mathlib.Core.Path.{◌≡◌, refl, sym, ap, ◌∙◌}
-use mathlib.Core.Bool.{Bool, true, false, cond}
+use mathlib.Core.Bool.{Bool, true, false}
 use mathlib.Core.List.{List}
 use native.Mathlib.Omega.{arith}
 use native.Mathlib.Decide.{dec_lt}
 use lib.IntN.{ℤ}
-use lib.Dec.{ltb}
-use borrow.Author.Tests.{ltb-true, ltb-false}
 use Rattle.maps.specs.Sums.{sum_to, when}
 use Rattle.maps.proofs.Sums.{sum-next}
 use Rattle.consolidate.specs.Runs.{Leads}
-use Rattle.consolidate.proofs.Leading.{leads-new, leads-on, leads-greatest, leads-first}
+use Rattle.consolidate.proofs.Leading.{leads-greatest, leads-first}
 use Rattle.consolidate.proofs.Sliding.{slides-on, slides-none, covers-sum}
 use Rattle.hough.specs.Hough.{far, hough_sum, hough_peak}
 use Rattle.hough.specs.Limits.{Bins}
-use Rattle.hough.specs.Keys.{row, key, Ready, Around, at_start, better_of, more_of}
+use Rattle.hough.specs.Keys.{row, key, Ready, Around, at_start, more_of}
 use Rattle.hough.specs.declared.Peak.{Peak}
 use Rattle.hough.specs.declared.Background.{Background}
 use Rattle.hough.specs.declared.Windows.{Windows}
-use Rattle.hough.proofs.Places.{three_sums, keys_up, hough-is, hough-small}
+use Rattle.hough.proofs.Places.{three_sums, hough-is, hough-small}
 
 -- ---- three windows
 
@@ -38,23 +36,10 @@ pub three-sums : (l : List ℤ) (n tol x : ℕ) (t : Windows) → Around l n tol
 three-sums l n tol x t o = omega (arith, covers-sum o.under, covers-sum o.here, covers-sum o.over)
 
 module _ (l : List ℤ) (n tol : ℕ) (b : Bins l n) where
-  pub ready-next : (i : ℕ) (t : Windows) → Around l n tol (key l i) t → i + 1 < n → Ready l n tol (key l (i + 1)) t
-  ready-next i t o h = let k = keys_up l n b i (i + 1) (omega arith) h in ready_on l n tol (key l i) (key l (i + 1)) t (omega arith) o
-
   pub around-sum : (i : ℕ) (t : Windows) → tol ≤ 65535 → i < n → Around l n tol (key l i) t → t.under.sum + t.here.sum + t.over.sum ≡ hough_sum l n tol i
   around-sum i t T h o = three-sums l n tol (key l i) t o ∙ sym (hough-is l n b tol i T h)
 
 -- ---- the first greatest
-
-pub leads-more : (f : ℕ → ℕ) (i : ℕ) (p : Peak) → Leads f i p.votes p.at → let q = better_of p i (f i) in Leads f (i + 1) q.votes q.at
-leads-more f i p L = go (ltb p.votes (f i)) refl
-  where
-    one : (x : ℕ) → i ≤ x → x < i + 1 → f x ≡ f i
-    one x a b = let e : x ≡ i = omega arith in ap f e
-
-    go : (b : Bool) → ltb p.votes (f i) ≡ b → let q : Peak = cond b (record { votes = f i; at = i }) p in Leads f (i + 1) q.votes q.at
-    go true e = leads-new f i (i + 1) p.votes p.at (f i) L (omega arith) one (ltb-true p.votes (f i) e)
-    go false e = leads-on f i (i + 1) p.votes p.at (f i) L (omega arith) one (ltb-false p.votes (f i) e)
 
 module _ (l : List ℤ) (n tol : ℕ) (p : Peak) (L : Leads (hough_sum l n tol) n p.votes p.at) where
   peak-is : p ≡ hough_peak l n tol
