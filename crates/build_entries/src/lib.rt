@@ -1,9 +1,9 @@
 // Hashes laid down as entries in key order, and the rows of their recordings.
 #![tactic(auto)]
 
-ghost use Rattle.std.specs.Prelude.{◌≡◌, cond, [], ◌∷◌, ◌++◌, map, ◌+◌, ◌*◌, ◌-◌, ◌≤◌, length, take, drop, get_or};
+ghost use Rattle.std.specs.Prelude.{◌≡◌, cond, [], ◌∷◌, ◌++◌, map, ◌+◌, ◌*◌, ◌-◌, ◌≤◌, ◌<◌, length, take, drop, get_or};
 ghost use Rattle.lists.specs.Lists.{sum, flat, All};
-ghost use Rattle.build_ranges.specs.Codes.{Fit, tabulate, ranks_from};
+ghost use Rattle.build_ranges.specs.Codes.{tabulate, ranks_from};
 ghost use Rattle.build_sort.specs.Digits.{Readable};
 ghost use Rattle.model.specs.Fingerprints.{hashes_of};
 ghost use Rattle.model.specs.Rows.{has_rmax, largest_anchor, canonical};
@@ -11,7 +11,19 @@ ghost use Rattle.model.specs.Words.{head_width, row_width};
 ghost use Rattle.maps.specs.Puts.{entry_of};
 ghost use Rattle.build_entries.specs.Laid.{entry_by, SameFrom, laid_entries, StartsTo, row_for};
 
+use build_ranges::Arrivals;
 use rows::Row;
+
+// Hashes with the rate and the set of each recording.
+#[derive(Clone, Copy)]
+pub struct Recordings<'a> {
+    pub arrivals: Arrivals<'a>,
+    pub rates: &'a [u32],
+    pub sets: &'a [u32],
+    ghost wide: { 3 ≤ arrivals.width },
+    ghost rated: { length rates.now ≡ length arrivals.lengths.now },
+    ghost grouped: { length sets.now ≡ length arrivals.lengths.now },
+}
 
 // Hash i becomes entry e, for recording id.
 fn lay_entry(posts: &mut [u32], w: usize, e: usize, hashes: &[u32], i: usize, id: u32)
@@ -72,27 +84,17 @@ fn lay_ranks(posts: &mut [u32], w: usize, m: usize, hashes: &[u32], starts: &[u3
 }
 
 // All hashes become entries, in key order: their ranks are sorted in the entries' words first.
-pub fn lay_all(posts: &mut [u32], w: usize, hashes: &[u32], lengths: &[u32])
-    requires { (3 ≤ w) × (w ≤ 5) × Fit hashes.now (w - 1) lengths.now × (w * sum lengths.now ≤ length posts.old) }
-    ensures { take (w * sum lengths.now) posts.new ≡ flat (laid_entries hashes.now w lengths.now) }
+pub fn lay_all(posts: &mut [u32], arrivals: Arrivals)
+    requires { (3 ≤ arrivals.width) × (arrivals.width * sum arrivals.lengths.now ≤ length posts.old) }
+    ensures { take (arrivals.entry.width * sum arrivals.entry.lengths.now) posts.new
+        ≡ flat (laid_entries arrivals.entry.hashes.now arrivals.entry.width arrivals.entry.lengths.now) }
 {
-    let v = w - 1;
+    let w = arrivals.width;
     let mut starts = [0u32; 4096];
-    fill_starts(&mut starts, lengths);
-    let m = fill_ranks(posts, lengths);
-    build_sort::sort_ranks(posts, m, hashes, v, &starts);
-    lay_ranks(posts, w, m, hashes, &starts);
-}
-
-// The row of the recording whose n hashes stand from `start` on.
-fn part_row(hashes: &[u32], w: usize, start: usize, n: usize, rate: u32, set: u32) -> Row
-    requires { (3 ≤ w) × ((w - 1) * (start + n) ≤ length hashes.now) }
-    ensures { (result.rate ≡ canonical rate) × (result.rmax ≡ cond (has_rmax w) (largest_anchor (take n (drop start (hashes_of w hashes.now)))) 0) × (result.set ≡ set) }
-{
-    let v = w - 1;
-    let a = v * start;
-    let e = v * (start + n);
-    rows::row_of(&hashes[a..e], w, rate, set)
+    fill_starts(&mut starts, arrivals.lengths);
+    let m = fill_ranks(posts, arrivals.lengths);
+    build_sort::sort_ranks(posts, m, arrivals.hashes, w - 1, &starts);
+    lay_ranks(posts, w, m, arrivals.hashes, &starts);
 }
 
 // Row i, and no vacant entry in it.
@@ -104,24 +106,35 @@ fn lay_row(refs: &mut [u32], i: usize, row: Row)
     rows::put_entry(refs, i, 0);
 }
 
-// The rows of all recordings.
-pub fn put_rows(
-    refs: &mut [u32],
-    hashes: &[u32],
-    w: usize,
-    lengths: &[u32],
-    rates: &[u32],
-    sets: &[u32],
-)
-    requires { (3 ≤ w) × (head_width + row_width * length lengths.now ≤ length refs.old) × (length rates.now ≡ length lengths.now) × (length sets.now ≡ length lengths.now) × Fit hashes.now (w - 1) lengths.now }
-    ensures { take (head_width + row_width * length lengths.now) refs.new ≡ take head_width refs.old
-        ++ flat (tabulate (λ i. row_for hashes.now w (sum (take i lengths.now)) (get_or lengths.now i 0) (get_or rates.now i 0) (get_or sets.now i 0)) (length lengths.now)) }
-{
-    let mut start = 0;
-    for (i, n) in lengths.iter().enumerate() {
-        let n = *n as usize;
-        let row = part_row(hashes, w, start, n, rates[i], sets[i]);
-        lay_row(refs, i, row);
-        start += n;
+impl Recordings<'_> {
+    // The row of recording i, whose hashes stand from `start` on.
+    fn row(self, i: usize, start: usize) -> Row
+        requires { (i < length self.arrivals.lengths.now)
+            × ((self.arrivals.width - 1) * (start + get_or self.arrivals.lengths.now i 0) ≤ length self.arrivals.hashes.now) }
+        ensures { (result.rate ≡ canonical (get_or self.entry.rates.now i 0))
+            × (result.rmax ≡ cond (has_rmax self.entry.arrivals.width)
+            (largest_anchor (take (get_or self.entry.arrivals.lengths.now i 0) (drop start (hashes_of self.entry.arrivals.width self.entry.arrivals.hashes.now)))) 0)
+            × (result.set ≡ get_or self.entry.sets.now i 0) }
+    {
+        let from = self.arrivals;
+        let n = from.lengths[i] as usize;
+        let v = from.width - 1;
+        let a = v * start;
+        let e = v * (start + n);
+        rows::row_of(&from.hashes[a..e], from.width, self.rates[i], self.sets[i])
+    }
+
+    // All rows.
+    pub fn put_rows(self, refs: &mut [u32])
+        requires { head_width + row_width * length self.arrivals.lengths.now ≤ length refs.old }
+        ensures { take (head_width + row_width * length self.entry.arrivals.lengths.now) refs.new ≡ take head_width refs.old
+            ++ flat (tabulate (λ i. row_for self.entry.arrivals.hashes.now self.entry.arrivals.width (sum (take i self.entry.arrivals.lengths.now))
+            (get_or self.entry.arrivals.lengths.now i 0) (get_or self.entry.rates.now i 0) (get_or self.entry.sets.now i 0)) (length self.entry.arrivals.lengths.now)) }
+    {
+        let mut start = 0;
+        for (i, n) in self.arrivals.lengths.iter().enumerate() {
+            lay_row(refs, i, self.row(i, start));
+            start += *n as usize;
+        }
     }
 }

@@ -4,3 +4,4 @@ pub mod Ranks
 pub mod Held
 pub mod Order
 pub mod Widths
+pub mod Props

@@ -5,10 +5,10 @@ ghost use Rattle.std.specs.Prelude.{◌≡◌, true, cond, List, ◌++◌, map, 
 ghost use Rattle.lists.specs.Lists.{flat};
 ghost use Rattle.lists.specs.Keys.{Sorted};
 ghost use Rattle.lists.specs.Entries.{keys_ascend, entries};
-ghost use Rattle.build_ranges.specs.Codes.{in_order, Fit};
+ghost use Rattle.build_ranges.specs.Codes.{in_order};
 ghost use Rattle.build_stops.specs.Over.{key_in, over_keys, Counted, keys_of, kept, RunEnd};
 
-use build_ranges::{TOP, next_width};
+use build_ranges::{Arrivals, TOP, next_width};
 
 // How often a key stood, with one time more.
 fn next_run(last: u64, run: usize, key: u64) -> usize
@@ -42,9 +42,9 @@ fn count_runs(codes: &[i64], limit: usize, mut st: Runs) -> Runs
 
 // How many keys are over the limit. Each batch but the last has 10,240 codes or more, so m hashes make at most m / 10,240 + 1 batches, and the loop takes no
 // more turns. The first range is tried as if the codes were spread evenly.
-pub fn over_count(hashes: &[u32], v: usize, lengths: &[u32], limit: usize) -> usize
-    requires { Fit hashes.now v lengths.now × (limit < 0x1_0000_0000) }
-    ensures { result ≡ length (over_keys limit (map key_in (in_order hashes.now v lengths.now))) }
+pub fn over_count(arrivals: Arrivals, limit: usize) -> usize
+    requires { limit < 0x1_0000_0000 }
+    ensures { result ≡ length (over_keys limit (map key_in (in_order arrivals.entry.hashes.now (arrivals.entry.width - 1) arrivals.entry.lengths.now))) }
 {
     let mut buf = [0i64; 40960];
     let mut st = Runs {
@@ -53,14 +53,14 @@ pub fn over_count(hashes: &[u32], v: usize, lengths: &[u32], limit: usize) -> us
         over: 0,
     };
     // no build has more hashes than 4,096 * 8,192
-    let m = (hashes.len() / v).min(33554432);
+    let m = (arrivals.hashes.len() / (arrivals.width - 1)).min(33554432);
     let mut lo = 0;
     let mut width = next_width(TOP, m);
     for turn in 0..build_ranges::most_batches(m) {
         if TOP <= lo {
             break;
         }
-        let g = build_ranges::batch(&mut buf, hashes, v, lengths, lo, width);
+        let g = arrivals.batch(&mut buf, lo, width);
         st = count_runs(&buf[..g.n], limit, st);
         width = next_width(g.hi - lo, g.n);
         lo = g.hi;
@@ -69,11 +69,12 @@ pub fn over_count(hashes: &[u32], v: usize, lengths: &[u32], limit: usize) -> us
 }
 
 // Whether more than `room` keys are over the limit. Of m hashes at most m / (limit + 1) keys are: with room for those, none is counted.
-pub fn over_room(hashes: &[u32], v: usize, lengths: &[u32], limit: usize, room: usize) -> bool
-    requires { Fit hashes.now v lengths.now × (limit < 0x1_0000_0000) }
-    ensures { result ≡ ltb room (length (over_keys limit (map key_in (in_order hashes.now v lengths.now)))) }
+pub fn over_room(arrivals: Arrivals, limit: usize, room: usize) -> bool
+    requires { limit < 0x1_0000_0000 }
+    ensures { result ≡ ltb room (length (over_keys limit (map key_in (in_order arrivals.entry.hashes.now (arrivals.entry.width - 1) arrivals.entry.lengths.now)))) }
 {
-    room < hashes.len() / v / (limit + 1) && room < over_count(hashes, v, lengths, limit)
+    let most = arrivals.hashes.len() / (arrivals.width - 1) / (limit + 1);
+    room < most && room < over_count(arrivals, limit)
 }
 
 // Where the entries with the key of entry i end.

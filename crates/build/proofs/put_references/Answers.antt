@@ -13,7 +13,7 @@ returns c =
     let a = c.args in
     let g = c.put_rows in
     let h = c.put_header in
-    let rows : List ℕ = flat (rows_for a.hashes.now a.w a.lengths.now a.rates.now a.sets.now) in
-    let n : ℕ = length a.lengths.now in
-    c.clear_from.ensures ∙ padded-is (length a.refs.now) (head_width + row_width * n) g.new.refs (n ∷ 0 ∷ a.p ∷ a.k ∷ rows) (g.auto.refs ∙ h.auto.refs) c.requires.1
+    let rows : List ℕ = flat (rows_for a.recordings.arrivals.hashes.now a.recordings.arrivals.width a.recordings.arrivals.lengths.now a.recordings.rates.now a.recordings.sets.now) in
+    let n : ℕ = length a.recordings.arrivals.lengths.now in
+    c.clear_from.ensures ∙ padded-is (length a.refs.now) (head_width + row_width * n) g.new.refs (n ∷ 0 ∷ a.left.postings ∷ a.left.stopped ∷ rows) (g.auto.refs ∙ h.auto.refs) c.requires.0
     (g.ensures ∙ ap (λ (l : List ℕ). take head_width l ++ rows) h.ensures)
