@@ -6,7 +6,11 @@ use Prim.Native.Nat.{ℕ, ◌+◌, ◌*◌, ◌/◌, ◌≤◌, ◌<◌}
 use native.Mathlib.Omega.{arith}
 use lib.IntN.{ℤ}
 use lib.ListN.{length, get_or, length-append}
-use Rattle.lists.specs.Lists.{flat}
+use lib.Dec.{eqb}
+use Rattle.std.specs.Simd.{first_chunks}
+use Rattle.lists.specs.Lists.{flat, All}
+use Rattle.lists.proofs.Keep.{all_keep}
+use Rattle.query_search.proofs.Parts.{chunks-are, rowed-all}
 use Rattle.lists.specs.Keys.{under}
 use Rattle.lists.specs.Entries.{entries, entry_at, key_of, key_at, keys_ascend}
 use Rattle.lists.proofs.Entries.{entry_key, entry-word}
@@ -128,20 +132,20 @@ module _ (g : ScaleGrid) (vs : ℕ) (rs ps : List ℕ) (p : ℕ) (hs : List ℕ)
             let d = before-longer (i + 1) m (omega arith) in
             omega (arith, C.counted, a, b, d, longer i, ap length whole_part)
 
-  -- ---- the part under the key of hash i
+  -- ---- the postings under the key of hash i, as chunks of their part
 
-  module _ (fit : 5 * p ≤ length ps) (i qa qc : ℕ) (part : List ℕ) (k : part ≡ flat (under key_of (get_or hs (4 * i) 0) (entries 5 p ps))) where
-    part-is : entries 5 (length part / 5) part ≡ under key_of (get_or hs (4 * i) 0) (entries 5 p ps)
-    part-is = rw (k, part-many 5 ps p (get_or hs (4 * i) 0) (omega arith) fit) (part-entries ps 5 p (get_or hs (4 * i) 0) fit)
+  module _ (fit : 5 * p ≤ length ps) (i qa qc : ℕ) (part : List ℕ) (k : part ≡ flat (under key_of (get_or hs (4 * i) 0) (entries 5 p ps))) (l : List (List ℕ)) (kl : l ≡ first_chunks 5 (length part / 5) part) where
+    chunks : l ≡ under key_of (get_or hs (4 * i) 0) (entries 5 p ps)
+    chunks = kl ∙ chunks-are 5 (length part / 5) part ∙ rw (k, part-many 5 ps p (get_or hs (4 * i) 0) (omega arith) fit) (part-entries ps 5 p (get_or hs (4 * i) 0) fit)
 
-    pub part-rows : Rowed rs ps 5 p → Rowed rs part 5 (length part / 5)
-    part-rows R = rowed-part rs ps 5 p R part (length part / 5) (get_or hs (4 * i) 0) part-is
+    pub part-rows : Rowed rs ps 5 p → All (λ e. HasRow rs (get_or e 1 0)) l
+    part-rows R = rw chunks (all_keep (λ e. HasRow rs (get_or e 1 0)) (λ e. eqb (key_of e) (get_or hs (4 * i) 0)) (entries 5 p ps) (rowed-all rs ps 5 p R))
 
-    pub part-bits : Ids (entries 5 p ps) → Ids (entries 5 (length part / 5) part)
-    part-bits ids = rw part-is (part-ids 5 ps p (get_or hs (4 * i) 0) ids)
+    pub part-bits : Ids (entries 5 p ps) → Ids l
+    part-bits ids = rw chunks (part-ids 5 ps p (get_or hs (4 * i) 0) ids)
 
-    -- its votes
-    pub part-words : qa ≡ get_or hs (4 * i + 1) 0 → qc ≡ get_or hs (4 * i + 3) 0 → words_on g qa qc (voting vs rs (entries 5 (length part / 5) part)) ≡ at i
+    -- their votes
+    pub part-words : qa ≡ get_or hs (4 * i + 1) 0 → qc ≡ get_or hs (4 * i + 3) 0 → words_on g qa qc (voting vs rs l) ≡ at i
     part-words ea ec =
-        ap (λ (l : List (List ℕ)). words_on g qa qc l) (ap (voting vs rs) part-is ∙ sym (under-voting vs rs (get_or hs (4 * i) 0) (entries 5 p ps)))
+        ap (λ (x : List (List ℕ)). words_on g qa qc x) (ap (voting vs rs) chunks ∙ sym (under-voting vs rs (get_or hs (4 * i) 0) (entries 5 p ps)))
         ∙ ap₂ (λ (a b : ℕ). words_on g a b (under key_of (get_or hs (4 * i) 0) es)) ea ec

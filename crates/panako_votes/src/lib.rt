@@ -153,7 +153,8 @@ fn gather_listed(
             span: span_at(search, i),
         };
         let part = search.part_of(starts[i], ends[i], search.hashes[4 * i]);
-        v = query_search::gather_part::<5, QueryHash>(s, v, voters, part, hash);
+        let (postings, _) = part.as_chunks::<5>();
+        v = query_search::gather_part::<5, QueryHash>(s, v, voters, postings, hash);
     }
     v
 }

@@ -2,7 +2,7 @@
 #![tactic(auto)]
 
 ghost use Rattle.std.specs.Prelude.{◌≡◌, ℕ, ℤ, List, ◌++◌, ◌+◌, ◌-◌, ◌*◌, ◌/◌, ◌^◌, ◌<◌, ◌≤◌, min, ◌&&◌, length, drop, take, ◌==◌, nat_lt, slice_index};
-ghost use Rattle.lists.specs.Lists.{flat};
+ghost use Rattle.lists.specs.Lists.{flat, All};
 ghost use Rattle.lists.specs.Keys.{under};
 ghost use Rattle.lists.specs.Entries.{entries, key_at, key_of};
 ghost use Rattle.maps.specs.Sums.{when};
@@ -291,20 +291,19 @@ pub trait Votes<const W: usize>: Copy {
         ensures { (result ≡ at + length (words_with self posting.now)) × (take result s.new ≡ take at s.old ++ words_with self posting.now) };
 }
 
-// The votes of a query hash with those postings of a part that vote go to the words from `at` on. Yields where they end.
+// The votes of a query hash with those of the postings that vote go to the words from `at` on. Yields where they end.
 pub fn gather_part<const W: usize, H: Votes<W>>(
     s: &mut [i64],
     at: usize,
     voters: Voters,
-    part: &[u32],
+    postings: &[[u32; W]],
     hash: H,
 ) -> usize
-    requires { (W < 2 ^ 32) × Rowed voters.refs.now part.now W (length part.now / W) × Ids (entries W (length part.now / W) part.now)
-        × (at + length (words_by (H.words_with hash) (voting voters.set voters.refs.now (entries W (length part.now / W) part.now))) ≤ length s.old) }
-    ensures { (result ≡ at + length (words_by (H.words_with hash) (voting voters.entry.set voters.entry.refs.now (entries W (length part.now / W) part.now))))
-        × (take result s.new ≡ take at s.old ++ words_by (H.words_with hash) (voting voters.entry.set voters.entry.refs.now (entries W (length part.now / W) part.now))) }
+    requires { (1 < W) × (W < 2 ^ 32) × All (λ e. HasRow voters.refs.now (slice_index e 1)) postings.now × Ids postings.now
+        × (at + length (words_by (H.words_with hash) (voting voters.set voters.refs.now postings.now)) ≤ length s.old) }
+    ensures { (result ≡ at + length (words_by (H.words_with hash) (voting voters.entry.set voters.entry.refs.now postings.now)))
+        × (take result s.new ≡ take at s.old ++ words_by (H.words_with hash) (voting voters.entry.set voters.entry.refs.now postings.now)) }
 {
-    let (postings, _) = part.as_chunks::<W>();
     let mut v = at;
     for posting in postings {
         if voters.may_vote(posting[1]) {

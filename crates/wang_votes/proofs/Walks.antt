@@ -7,11 +7,15 @@ use Prim.Native.Nat.{ℕ, suc, ◌+◌, ◌*◌, ◌/◌, ◌-◌, ◌^◌, ◌�
 use native.Mathlib.Nat.{eq-or-lt_of_le}
 use native.Mathlib.Omega.{arith}
 use lib.IntN.{ℤ, pos}
-use lib.Dec.{ltb}
+use lib.Dec.{ltb, eqb}
 use lib.ListN.{length, get_or, take, drop, set, length-append, length-drop}
 use lib.Seq.{set_out, take-suc-set, take-set-le, length-take-le, get_or-take, get_or-drop}
 use borrow.Author.Tests.{lt-ltb, le-ltb, ltb-true, ltb-false}
-use Rattle.lists.specs.Lists.{keep, flat, sum}
+use Rattle.std.specs.Simd.{first_chunks}
+use Rattle.std.proofs.Common.{take_all}
+use Rattle.lists.specs.Lists.{keep, flat, sum, All}
+use Rattle.lists.proofs.Keep.{all_keep}
+use Rattle.query_search.proofs.Parts.{chunks-are, rowed-all}
 use Rattle.lists.specs.Keys.{under}
 use Rattle.lists.specs.Entries.{entries, entry_at, key_of, keys_ascend}
 use Rattle.lists.proofs.Tests.{test, and_left, yes_and}
@@ -22,7 +26,7 @@ use Rattle.bins.specs.Votes.{packed}
 use Rattle.query_search.specs.Starts.{met}
 use Rattle.query_search.proofs.Meeting.{under-many, under-entries}
 use Rattle.query_search.specs.Voting.{may_vote, voting, HasRow, Rowed}
-use Rattle.query_search.proofs.Voting.{under-voting, rowed-word, rowed-part}
+use Rattle.query_search.proofs.Voting.{under-voting, rowed-word}
 use Rattle.query_search.proofs.Counting.{few-votes, votes-all}
 use Rattle.maps.specs.Sums.{when}
 use Rattle.maps.proofs.Sums.{keep-le}
@@ -183,23 +187,29 @@ module _ (v : ℕ) (rs ps : List ℕ) (p key : ℕ) (fits : 3 * p ≤ length ps)
   )
 
   -- what is handed on where there are more
-  module _ (part : List ℕ) (k : part ≡ flat (under key_of key (entries 3 p ps))) where
-    held : entries 3 (length part / 3) part ≡ under key_of key (entries 3 p ps)
-    held = rw (k, part-many 3 ps p key (omega arith) fits) (part-entries ps 3 p key fits)
+  module _ (part : List ℕ) (k : part ≡ flat (under key_of key (entries 3 p ps))) (l : List (List ℕ)) (kl : l ≡ first_chunks 3 (length part / 3) part) where
+    chunks : l ≡ under key_of key (entries 3 p ps)
+    chunks = kl ∙ chunks-are 3 (length part / 3) part ∙ rw (k, part-many 3 ps p key (omega arith) fits) (part-entries ps 3 p key fits)
 
-    votes : voting v rs (entries 3 (length part / 3) part) ≡ under key_of key (voting v rs (entries 3 p ps))
+    pub part-long : length l ≡ (end - start) / 3
+    part-long = ap length chunks ∙ under-many ps 3 p key t (omega arith) fits ∙ sym between
+
+    held : take ((end - start) / 3) l ≡ under key_of key (entries 3 p ps)
+    held = take_all ((end - start) / 3) l (omega (arith, part-long)) ∙ chunks
+
+    votes : voting v rs (take ((end - start) / 3) l) ≡ under key_of key (voting v rs (entries 3 p ps))
     votes = ap (voting v rs) held ∙ sym (under-voting v rs key (entries 3 p ps))
 
-    pub part-number : (shift q : ℕ) → length (words_on shift q (voting v rs (entries 3 (length part / 3) part))) ≡ length (under key_of key (voting v rs (entries 3 p ps)))
-    part-number shift q = ap (λ (l : List (List ℕ)). length (words_on shift q l)) votes ∙ one-with-each shift q (under key_of key (voting v rs (entries 3 p ps)))
+    pub part-number : (shift q : ℕ) → length (words_on shift q (voting v rs (take ((end - start) / 3) l))) ≡ length (under key_of key (voting v rs (entries 3 p ps)))
+    part-number shift q = ap (λ (x : List (List ℕ)). length (words_on shift q x)) votes ∙ one-with-each shift q (under key_of key (voting v rs (entries 3 p ps)))
 
-    pub part-words : (shift q : ℕ) → words_on shift q (voting v rs (entries 3 (length part / 3) part)) ≡ words_on shift q (under key_of key (voting v rs (entries 3 p ps)))
-    part-words shift q = ap (λ (l : List (List ℕ)). words_on shift q l) votes
+    pub part-words : (shift q : ℕ) → words_on shift q (voting v rs (take ((end - start) / 3) l)) ≡ words_on shift q (under key_of key (voting v rs (entries 3 p ps)))
+    part-words shift q = ap (λ (x : List (List ℕ)). words_on shift q x) votes
 
-    pub part-rows : Rowed rs ps 3 p → Rowed rs part 3 (length part / 3)
-    part-rows R = rowed-part rs ps 3 p R part (length part / 3) key held
+    pub part-rows : Rowed rs ps 3 p → All (λ e. HasRow rs (get_or e 1 0)) (take ((end - start) / 3) l)
+    part-rows R = rw held (all_keep (λ e. HasRow rs (get_or e 1 0)) (λ e. eqb (key_of e) key) (entries 3 p ps) (rowed-all rs ps 3 p R))
 
-    pub part-bits : Ids (entries 3 p ps) → Ids (entries 3 (length part / 3) part)
+    pub part-bits : Ids (entries 3 p ps) → Ids (take ((end - start) / 3) l)
     part-bits ids = rw held (part-ids 3 ps p key ids)
 
 -- ---- those of hash i, written behind those before it

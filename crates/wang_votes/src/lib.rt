@@ -23,9 +23,9 @@ pub struct QueryHash {
 }
 
 impl QueryHash {
-    // Its vote with a posting goes to word `at`.
-    fn put_word(self, s: &mut [i64], at: usize, posting: &[u32; 3])
-        requires { (at < length s.old) × (get_or posting.now 1 0 < 2 ^ 12) }
+    // Its vote with a posting, which the words begin with, goes to word `at`.
+    fn put_word(self, s: &mut [i64], at: usize, posting: &[u32])
+        requires { (at < length s.old) × (2 < length posting.now) × (get_or posting.now 1 0 < 2 ^ 12) }
         ensures { s.new ≡ set s.old at (pos (packed (get_or posting.now 1 0) (get_or posting.now 2 0 + self.shift) self.position)) }
     {
         let id = u64::from(posting[1]);
@@ -58,10 +58,8 @@ fn gather_first(s: &mut [i64], at: usize, part: &[u32], hash: QueryHash)
     ensures { s.new ≡ cond (ltb 0 (length part.now))
         (set s.old at (pos (packed (get_or part.now 1 0) (get_or part.now 2 0 + hash.shift) hash.position))) s.old }
 {
-    if at < s.len() {
-        if let Some(posting) = part.first_chunk::<3>() {
-            hash.put_word(s, at, posting);
-        }
+    if (0 < part.len()) & (at < s.len()) {
+        hash.put_word(s, at, part);
     }
 }
 
@@ -90,7 +88,8 @@ fn gather_key(
         gather_first(s, at, part, hash);
         return at + voters.first_votes(search.posts, 3 * search.count, start as usize, n);
     }
-    query_search::gather_part::<3, QueryHash>(s, at, voters, search.part_of(start, end, key), hash)
+    let (postings, _) = search.part_of(start, end, key).as_chunks::<3>();
+    query_search::gather_part::<3, QueryHash>(s, at, voters, &postings[..n], hash)
 }
 
 // The votes of the query hashes, as words from the first on; `starts` and `ends` say where the postings of each hash begin and end, `top` is

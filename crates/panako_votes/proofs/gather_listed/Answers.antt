@@ -17,14 +17,18 @@ gather_part-v-requires c =
     let refs = c.args.voters.refs.now in
     let i = get_or c.args.which.now c.loop-listed.listed-index 0 in
     let span = c.span_at.result in
-    let words = part-words c.args.g set refs s.posts.now s.count s.hashes.now s.sought.postings i span.anchor span.end _ c.part_of-part.ensures
+    let words = part-words c.args.g set refs s.posts.now s.count s.hashes.now s.sought.postings i span.anchor span.end _ c.part_of-part.ensures _ c.as_chunks.ensures.front
     (ap (λ (x : Span). x.anchor) c.span_at.ensures) (ap (λ (x : Span). x.end) c.span_at.ensures) in
     let room = walked-room c.args.g set refs s.posts.now s.count s.hashes.now s.hash_count c.args.starts.now c.args.ends.now s.sought c.requires.1 c.requires.2 c.args.which.now _ c.requires.5
     _ c.loop-listed.v c.loop-listed.listed-index c.loop-listed.invariant (omega arith) in (
       omega arith,
-      part-rows c.args.g set refs s.posts.now s.count s.hashes.now s.sought.postings i span.anchor span.end _ c.part_of-part.ensures c.requires.0.rowed,
-      part-bits c.args.g set refs s.posts.now s.count s.hashes.now s.sought.postings i span.anchor span.end _ c.part_of-part.ensures c.requires.0.ids,
-      omega (arith, ap length words, room, ap length (before-all c.args.g set refs s.posts.now s.count s.hashes.now s.hash_count), c.requires.6, c.loop-listed.auto.s),
+      (
+        omega arith,
+        omega arith,
+        part-rows c.args.g set refs s.posts.now s.count s.hashes.now s.sought.postings i span.anchor span.end _ c.part_of-part.ensures _ c.as_chunks.ensures.front c.requires.0.rowed,
+        part-bits c.args.g set refs s.posts.now s.count s.hashes.now s.sought.postings i span.anchor span.end _ c.part_of-part.ensures _ c.as_chunks.ensures.front c.requires.0.ids,
+        omega (arith, ap length words, room, ap length (before-all c.args.g set refs s.posts.now s.count s.hashes.now s.hash_count), c.requires.6, c.loop-listed.auto.s),
+      ),
     )
 
 pub loop-listed-preserved : goal.loop-listed-preserved
@@ -34,7 +38,7 @@ loop-listed-preserved c =
     let refs = c.args.voters.refs.now in
     let i = get_or c.args.which.now c.loop-listed.listed-index 0 in
     let span = c.span_at.result in
-    let words = part-words c.args.g set refs s.posts.now s.count s.hashes.now s.sought.postings i span.anchor span.end _ c.part_of-part.ensures
+    let words = part-words c.args.g set refs s.posts.now s.count s.hashes.now s.sought.postings i span.anchor span.end _ c.part_of-part.ensures _ c.as_chunks.ensures.front
     (ap (λ (x : Span). x.anchor) c.span_at.ensures) (ap (λ (x : Span). x.end) c.span_at.ensures) in
     walked_more c.args.g set refs s.posts.now s.count s.hashes.now s.hash_count c.args.starts.now c.args.ends.now s.sought c.requires.1 c.requires.2 c.args.which.now _ c.requires.5
     _ c.loop-listed.v c.loop-listed.listed-index c.loop-listed.invariant (omega arith) _ _

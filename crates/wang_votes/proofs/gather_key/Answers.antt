@@ -1,6 +1,6 @@
 -- `wang_votes::gather_key`: the postings of the part are those under the key. Assumes nothing.
-use Rattle.std.proofs.Common.{◌+◌, ◌++◌, List, ℕ, ℤ, ap, ◌∙◌, take, arith}
-use Rattle.wang_votes.proofs.Walks.{key-forward, key-within, first-ready, first-number, first-put, first-rows, part-number, part-words, part-rows, part-bits}
+use Rattle.std.proofs.Common.{◌+◌, ◌++◌, List, ℕ, ℤ, ap, sym, ◌∙◌, take, length-take-le, arith}
+use Rattle.wang_votes.proofs.Walks.{key-forward, key-within, first-ready, first-number, first-put, first-rows, part-long, part-number, part-words, part-rows, part-bits}
 use Rattle.wang_votes.proofs.gather_key.Goals as goal
 
 pub overflow_sub-n : goal.overflow_sub-n
@@ -29,21 +29,31 @@ returns-then-n-le1 c =
           c.args.hash.shift c.args.hash.position _ _ _ c.requires.4 c.gather_first.ensures,
     )
 
+pub slice_bounds-gather_part-end : goal.slice_bounds-gather_part-end
+slice_bounds-gather_part-end c =
+    let s = c.args.search.sought in
+    let n = part-long c.args.voters.set c.args.voters.refs.now _ _ c.args.key s.postings s.ascend _ _ c.requires.0 c.requires.1 _ c.part_of.ensures _ c.as_chunks.ensures.front in
+    sym (length-take-le _ c.as_chunks.result.0.now (omega arith))
+
 pub gather_part-requires : goal.gather_part-requires
 gather_part-requires c =
     let s = c.args.search.sought in
-    let n = part-number c.args.voters.set c.args.voters.refs.now _ _ c.args.key s.postings s.ascend _ _ c.requires.0 c.requires.1 _ c.part_of.ensures c.args.hash.shift c.args.hash.position in (
+    let n = part-number c.args.voters.set c.args.voters.refs.now _ _ c.args.key s.postings s.ascend _ _ c.requires.0 c.requires.1 _ c.part_of.ensures _ c.as_chunks.ensures.front c.args.hash.shift c.args.hash.position in (
       omega arith,
-      part-rows c.args.voters.set _ _ _ c.args.key s.postings s.ascend _ _ c.requires.0 c.requires.1 _ c.part_of.ensures c.requires.3,
-      part-bits c.args.voters.set c.args.voters.refs.now _ _ c.args.key s.postings s.ascend _ _ c.requires.0 c.requires.1 _ c.part_of.ensures c.requires.2,
-      omega (arith, n, c.requires.4),
+      (
+        omega arith,
+        omega arith,
+        part-rows c.args.voters.set c.args.voters.refs.now _ _ c.args.key s.postings s.ascend _ _ c.requires.0 c.requires.1 _ c.part_of.ensures _ c.as_chunks.ensures.front c.requires.3,
+        part-bits c.args.voters.set c.args.voters.refs.now _ _ c.args.key s.postings s.ascend _ _ c.requires.0 c.requires.1 _ c.part_of.ensures _ c.as_chunks.ensures.front c.requires.2,
+        omega (arith, n, c.requires.4),
+      ),
     )
 
 pub returns : goal.returns
 returns c =
     let s = c.args.search.sought in (
       c.gather_part.ensures.0 ∙ ap (λ (n : ℕ). c.args.at + n)
-          (part-number c.args.voters.set c.args.voters.refs.now _ _ c.args.key s.postings s.ascend _ _ c.requires.0 c.requires.1 _ c.part_of.ensures c.args.hash.shift c.args.hash.position),
+          (part-number c.args.voters.set c.args.voters.refs.now _ _ c.args.key s.postings s.ascend _ _ c.requires.0 c.requires.1 _ c.part_of.ensures _ c.as_chunks.ensures.front c.args.hash.shift c.args.hash.position),
       c.gather_part.ensures.1 ∙ ap (λ (l : List ℤ). take c.args.at c.args.s.now ++ l)
-          (part-words c.args.voters.set c.args.voters.refs.now _ _ c.args.key s.postings s.ascend _ _ c.requires.0 c.requires.1 _ c.part_of.ensures c.args.hash.shift c.args.hash.position),
+          (part-words c.args.voters.set c.args.voters.refs.now _ _ c.args.key s.postings s.ascend _ _ c.requires.0 c.requires.1 _ c.part_of.ensures _ c.as_chunks.ensures.front c.args.hash.shift c.args.hash.position),
     )
