@@ -8,7 +8,8 @@ ghost use Rattle.bins.specs.Codes.{code_in, codes_in, Fits, width, Group, occupi
 ghost use Rattle.bins.specs.Distinct.{near_place, marked, distinct_near};
 
 // How a candidate's votes stand in words: a word counts from -low; without its last `bits` bits it is a code of `size` bits
-// and the recording's id above it. Where `scaled`, a code is a scale bin above 40 bits of place, else a place.
+// and the recording's id above it. Where `scaled`, a code is a scale bin above 40 bits of place, else a place. That a form `Fits` is no
+// ghost field: definitions name forms by these four fields alone.
 #[derive(Clone, Copy)]
 pub struct Form {
     pub low: u64,
@@ -96,7 +97,7 @@ fn last_bits(x: u64, size: u32) -> u64
 
 impl Form {
     // What a word has above its last bits.
-    pub fn lead(self) -> Lead
+    fn lead(self) -> Lead
         requires { Fits self }
         ensures { (result.low ≡ self.low) × (result.bits ≡ self.bits) }
     {

@@ -3,7 +3,8 @@ use Rattle.std.proofs.Common.{◌≡◌, ℕ, zero, suc, ◌+◌, ◌-◌, ◌/�
 use lib.IntN.{+ℤ_comm, +ℤ-neg_ℤ_cancel, -ℤ-+ℤ_cancel}
 use lib.Signed.{non_neg, pos-nat_abs}
 use Rattle.panako_vote.specs.Votes.{InRange}
-use Rattle.panako_vote.specs.Words.{Vote, middle, code_of, vote_of_code}
+use Rattle.panako_vote.specs.declared.Vote.{Vote}
+use Rattle.panako_vote.specs.Words.{middle, code_of, vote_of_code}
 use Rattle.panako_vote.proofs.Bounds.{shifted}
 
 -- ---- an offset's place

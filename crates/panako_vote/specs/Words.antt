@@ -1,9 +1,8 @@
 -- A vote as one word. Definitions only. Assumes nothing.
 use Rattle.std.specs.Prelude.{Option, Some, None, ℕ, ◌+◌, ◌*◌, ◌/◌, ◌%◌, ◌^◌, List, [], ◌∷◌, ℤ, pos, ◌+ℤ◌, ◌-ℤ◌, neg_ℤ, unsigned_abs}
--- "Panako vote": its scale bin and its offset in frames. The id is the candidate's.
-pub use Rattle.panako_vote.specs.declared.Vote.{Vote}
+use Rattle.panako_vote.specs.declared.Vote.{Vote}
 
--- what a pair gives: none or one
+-- "Panako vote": its scale bin and its offset in frames. The id is the candidate's. What a pair gives: none or one
 abbrev pub as_list : Option Vote → List Vote
 as_list None = []
 as_list (Some v) = v ∷ []

@@ -83,7 +83,7 @@ pub fn scale_bin(x: f64, last: u32) -> u32
     floats::small_whole_part(at_least_zero(at_most(x, last as f64))) as u32
 }
 
-// The scale grid: what is worked out once for all pairs of a query.
+// The scale grid: what is worked out once for all pairs of a query. That it is `Limited` is no ghost field: a grid is made of any settings.
 #[derive(Clone, Copy)]
 pub struct ScaleGrid {
     pub scale_min: f64,

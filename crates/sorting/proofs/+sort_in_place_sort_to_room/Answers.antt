@@ -1,16 +1,14 @@
 use Rattle.std.proofs.Common.{◌≡◌, ◌+◌, length, ◌-◌, ◌/◌, ◌∙◌}
 use native.Mathlib.Omega.{arith}
 use lib.ListN.{length-take, length-drop}
-use Rattle.sorting.proofs.Halves.{already-sorted, part-sorted, halves-sorted, place-done, room-done}
+use Rattle.sorting.proofs.Halves.{steps-slice, already-sorted, part-sorted, halves-sorted, place-done, room-done}
 use Rattle.sorting.proofs.+sort_in_place_sort_to_room.Goals as goal
 
--- src/lib.rt:171:9
-pub sort_in_place-returns-then-ascends : goal.sort_in_place-returns-then-ascends
-sort_in_place-returns-then-ascends t c =
+pub sort_in_place-returns-then-is_sorted : goal.sort_in_place-returns-then-is_sorted
+sort_in_place-returns-then-is_sorted t c =
     let o = c.args in
-    already-sorted o.w.now o.n o.lo o.hi (c.ascends.ensures c.if-ascends.true)
+    already-sorted o.w.now o.n o.lo o.hi (steps-slice o.w.now o.lo o.hi (omega arith) c.if-is_sorted.ensures.cases)
 
--- src/lib.rt:175:9
 pub sort_in_place-returns-then-hi-lo-lt-FEW_WORDS :
     goal.sort_in_place-returns-then-hi-lo-lt-FEW_WORDS
 sort_in_place-returns-then-hi-lo-lt-FEW_WORDS t c =
@@ -19,7 +17,6 @@ sort_in_place-returns-then-hi-lo-lt-FEW_WORDS t c =
     let l : length s.new.a ≡ o.hi - o.lo = s.auto.a ∙ simp (length-take, length-drop) (omega arith) in
     part-sorted o.w.now s.new.a o.n o.lo o.hi (omega arith) (omega arith) l s.ensures
 
--- src/lib.rt:180:5
 pub sort_in_place-merge-requires : goal.sort_in_place-merge-requires
 sort_in_place-merge-requires t c =
     let o = c.args in
@@ -30,7 +27,6 @@ sort_in_place-merge-requires t c =
     (omega arith) (omega arith) (omega arith) (omega arith) one.ensures two.ensures (omega arith) (λ t a b. two.ensures.between t (omega arith) (omega arith)) in
     (omega arith, s.0, s.1)
 
--- src/lib.rt:165:1
 pub sort_in_place-returns : goal.sort_in_place-returns
 sort_in_place-returns t c =
     let o = c.args in
@@ -40,7 +36,6 @@ sort_in_place-returns t c =
     place-done o.w.now one.new.w two.new.w c.merge.new.w o.n o.lo m o.hi one.auto.w two.auto.w
     (omega arith) (omega arith) (omega arith) (omega arith) one.ensures two.ensures c.merge.ensures
 
--- src/lib.rt:192:5
 pub sort_to_room-merge-requires : goal.sort_to_room-merge-requires
 sort_to_room-merge-requires t c =
     let o = c.args in
@@ -51,7 +46,6 @@ sort_to_room-merge-requires t c =
     (omega arith) (omega arith) (omega arith) (omega arith) one.ensures two.ensures (omega arith) (λ t a b. two.ensures.before t b) in
     (omega arith, s.0, s.1)
 
--- src/lib.rt:184:1
 pub sort_to_room-returns : goal.sort_to_room-returns
 sort_to_room-returns t c =
     let o = c.args in
