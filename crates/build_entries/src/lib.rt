@@ -12,6 +12,7 @@ ghost use Rattle.maps.specs.Puts.{entry_of};
 ghost use Rattle.build_entries.specs.Laid.{entry_by, SameFrom, laid_entries, StartsTo, row_for};
 
 use build_ranges::Arrivals;
+use build_sort::Hashes;
 use rows::Row;
 
 // Hashes with the rate and the set of each recording.
@@ -93,7 +94,12 @@ pub fn lay_all(posts: &mut [u32], arrivals: Arrivals)
     let mut starts = [0u32; 4096];
     fill_starts(&mut starts, arrivals.lengths);
     let m = fill_ranks(posts, arrivals.lengths);
-    build_sort::sort_ranks(posts, m, arrivals.hashes, w - 1, &starts);
+    let named = Hashes {
+        words: arrivals.hashes,
+        width: w - 1,
+        starts: &starts,
+    };
+    named.sort_ranks(posts, m);
     lay_ranks(posts, w, m, arrivals.hashes, &starts);
 }
 
