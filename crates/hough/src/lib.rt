@@ -119,6 +119,9 @@ pub fn scale_at(s: &[i64], n: usize, i: usize) -> u64
 
 // ---- a few bins
 
+// What writes sums takes the words, n and tol themselves: a struct that held the words by `&mut` would
+// be made anew for each call, and be no plainer.
+
 // Whether keys that lie d apart are those of neighbours: in one row, or one in the next row.
 fn is_near(d: u64, tol: u64) -> bool
     requires { tol ≤ 65535 }
@@ -511,7 +514,8 @@ pub fn panako_peak_offset(s: &[i64], n: usize, tol: u64, i: usize) -> i64
 
 // ---- for any arguments
 
-// Bin i is the last, or stands before the next.
+// Bin i is the last, or stands before the next. With `bin_ok` it stays apart from `consolidate`'s: the
+// words of a bin, their bounds and their order are other ones.
 fn rises(s: &[i64], n: usize, i: usize) -> bool
     requires { (i < n) × (3 * n ≤ length s.now) }
     ensures { result ≡ (leb n (i + 1) || before s.now i (i + 1)) }
