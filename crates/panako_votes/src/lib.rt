@@ -38,7 +38,11 @@ fn pair_count(voters: Voters, g: ScaleGrid, span: Span, posting: &[u32; 5]) -> u
     requires { HasRow voters.refs.now (get_or posting.now 1 0) }
     ensures { (result ≡ length (if_voting voters.entry.set voters.entry.refs.now (words_with g span.anchor span.end) posting.now)) × (result ≤ 1) }
 {
-    usize::from(panako_vote::has_vote(g, span, span_of(posting)) && voters.may_vote(posting[1]))
+    // Without a branch on whether the posting votes, which can't be predicted.
+    if panako_vote::has_vote(g, span, span_of(posting)) {
+        return voters.votes_at(posting, 0);
+    }
+    0
 }
 
 // The votes of the query hashes with those postings that vote; `starts` says where the postings of each hash begin. They are held at one more

@@ -114,12 +114,13 @@ impl<'a> Voters<'a> {
         rows::row_word(self.refs, id as usize, rows::AT_SET) == self.set
     }
 
-    // 1 where the posting at word e votes, and 0 where not.
+    // 1 where the posting at word e votes, and 0 where not. By `usize::from` the compiler doesn't make a loop of its own for queries in which all vote, and
+    // counting takes up to 1.6 times as long.
     pub fn votes_at(self, posts: &[u32], e: usize) -> usize
         requires { (e + 1 < length posts.now) × HasRow self.refs.now (slice_index posts.now (e + 1)) }
         ensures { (result ≡ when (may_vote self.entry.set self.entry.refs.now (slice_index posts.now (e + 1))) 1) × (result ≤ 1) }
     {
-        usize::from(self.may_vote(posts[e + 1]))
+        if self.may_vote(posts[e + 1]) { 1 } else { 0 }
     }
 
     // How many of the n postings, none or one, that stand under a key at word a vote. Where all may, nothing is read; else there is no branch on n.
