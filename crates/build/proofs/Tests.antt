@@ -6,7 +6,7 @@ use Prim.Native.Nat.{ℕ, zero, suc, ◌+◌, ◌-◌, ◌/◌, ◌%◌, ◌≤�
 use native.Mathlib.Numerals.{add-one}
 use native.Mathlib.Omega.{arith}
 use lib.ListN.{length, get_or, take, drop}
-use lib.Seq.{take-suc, take_all}
+use lib.Seq.{take-suc}
 use lib.Dec.{eqb, leb, ltb}
 use borrow.Author.Tests.{leb-true, lt-ltb, ne_eqb, eq-eqb}
 use Rattle.std.specs.List.{list_any}
@@ -72,9 +72,6 @@ module _ (t : ℕ → Bool) where
   pub some_more : (l : List ℕ) (i : ℕ) → i < length l → some? t (take i l) ≡ false → t (get_or l i 0) ≡ false → some? t (take (i + 1) l) ≡ false
   some_more l i h a e = rw (add-one, take-suc l i 0 h) (some-snoc (take i l) (get_or l i 0) a e)
 
-  pub some-all : (l : List ℕ) (i : ℕ) → length l ≤ i → some? t (take i l) ≡ false → some? t l ≡ false
-  some-all l i h e = rw (take_all i l h) at e
-
 -- the library's test is the same
 pub some-any : (t : ℕ → Bool) (l : List ℕ) → list_any t l ≡ some? t l
 unfolding some?
@@ -117,16 +114,6 @@ too_many l m i h k =
     rw ne (go (some? long l))
   where
     go : (b : Bool) → false ≡ not (b || not false)
-    go true = refl
-    go false = refl
-
-pub just-many : (l : List ℕ) (m i : ℕ) → length l ≤ i → some? long (take i l) ≡ false → eqb (sum (take i l)) m ≡ fits l m
-just-many l m i h e =
-    let a : take i l ≡ l = take_all i l h in
-    let e' : some? long l ≡ false = some-all long l i h e in
-    rw (a, e') (go (eqb (sum l) m))
-  where
-    go : (b : Bool) → b ≡ not (false || not b)
     go true = refl
     go false = refl
 
