@@ -6,7 +6,7 @@ use Prim.Native.Nat.{ℕ, ◌+◌, ◌/◌, ◌≤◌, ◌<◌}
 use native.Mathlib.Omega.{arith}
 use lib.IntN.{ℤ, pos}
 use Rattle.std.specs.Prelude.{Result, Ok, Err}
-use Rattle.std.proofs.lemmas.List.{get_or-take, length-take-le, take_all}
+use Rattle.std.proofs.lemmas.List.{get_or-take, length-take-le}
 use Rattle.refusals.specs.declared.Refusal.{Refusal}
 use Rattle.refusals.specs.declared.Refusal.TheVariants.{NoPostings, NoStops}
 use Rattle.refusals.specs.Numbers.{number_of}
@@ -27,11 +27,8 @@ use Rattle.insert.specs.declared.Plan.{Plan}
 use Rattle.insert.specs.Planned.{taken_in, Found, Planned, PlannedIn}
 use Rattle.insert.specs.Writing.{recorded, id_in, postings_in, Writable}
 use Rattle.insert.specs.Insert.{Ready}
+use Rattle.insert.proofs.Planning.{front-whole}
 use Rattle.insert.proofs.Admission.{refused-postings, refused-keys, writable, stored_is}
-
--- the first k of a list, cut off, are the first k again
-front-whole : {A : Type 0} (k : ℕ) (l : List A) → k ≤ length l → take (length (take k l)) (take k l) ≡ take k l
-front-whole k l h = take_all (length (take k l)) (take k l) (omega arith)
 
 writable-front : {w : ℕ} {rs ps ss words : List ℕ} {order : List ℤ} {m : ℕ} {overs : List ℕ} {n : ℕ} → m ≤ length order → n ≤ length overs → Writable w rs ps ss words order m overs n
     → Writable w rs ps ss words (take m order) (length (take m order)) (take n overs) (length (take n overs))

@@ -1,13 +1,13 @@
 -- Entries merged into words that are zero behind the old entries. Assumes nothing.
-use mathlib.Core.Path.{◌≡◌, refl, sym, ap, ◌∙◌, subst}
+use mathlib.Core.Path.{◌≡◌, refl, sym, ap, ◌∙◌}
 use mathlib.Core.Bool.{true}
 use mathlib.Core.List.{List, [], ◌∷◌, ◌++◌, map, append_assoc, append-nil}
-use Prim.Native.Nat.{ℕ, zero, suc, ◌+◌, ◌*◌, ◌-◌, ◌≤◌, ◌<◌}
-use native.Mathlib.Nat.{mul-add, mul-le-mul_left, le_trans, one-mul}
+use Prim.Native.Nat.{ℕ, zero, suc, ◌+◌, ◌*◌, ◌-◌, ◌/◌, ◌≤◌, ◌<◌}
+use native.Mathlib.Nat.{mul-add, mul-le-mul_left, mul-div_cancel_left, le_trans, le_refl, one-mul}
 use native.Mathlib.Omega.{arith}
 use lib.IntN.{ℤ, pos}
 use lib.ListN.{length, get_or, take, drop, replicate, length-map, replicate-append-replicate}
-use lib.Seq.{drop-drop, drop_at, length-take-le}
+use lib.Seq.{drop-drop, drop_at, length-take-le, take-take}
 use Rattle.lists.specs.Lists.{flat}
 use Rattle.lists.specs.Keys.{Sorted, place_all}
 use Rattle.lists.specs.Entries.{entries, key_of, key_at, keys_ascend, zero_from, padded, Wide}
@@ -143,10 +143,10 @@ module _ (w p : ℕ) (ps words : List ℕ) (order : List ℤ) (m : ℕ) (overs :
     pub result : merged ps1 w q news r ≡ padded (length ps) (flat (placed_entries w p ps words id (places_in m order) (take n overs)))
 
   pub merge : (ps1 news : List ℕ) (q r : ℕ) → q ≡ length (staying w p 0 (take n overs) ps) → ps1 ≡ retained w p 0 (take n overs) ps
-      → r ≡ length (without (w - 1) words (take n overs) (places_in m order)) → 40960 ≤ length news
+      → r ≡ length (without (w - 1) words (take n overs) (places_in m order)) → w * r ≤ length news
       → take (w * r) news ≡ flat (entries_of (w - 1) words id (without (w - 1) words (take n overs) (places_in m order))) → Merge ps1 news q r
   unfolding placed_entries
-  merge ps1 news q r eq e1 er big en =
+  merge ps1 news q r eq e1 er nroom en =
       let new = entries_of (w - 1) words id js in
       let w1 : 1 ≤ w = omega (arith, P.wide) in
       let is : ps1 ≡ padded (length ps) (flat stay) = e1 ∙ retained-is in
@@ -159,7 +159,6 @@ module _ (w p : ℕ) (ps words : List ℕ) (order : List ℤ) (m : ℕ) (overs :
       let olds : entries w q ps1 ≡ stay = held w q ps1 stay wide-stay eq qroom is1 in
       let lr : length new ≡ r = length-new ∙ sym er in
       let long : length (flat new) ≡ w * r = length-flat w new wide-new ∙ rw lr in
-      let nroom : w * r ≤ length news = le_trans (five w r P.narrow (omega (arith, P.few))) big in
       let news-are : entries w r news ≡ new =
       sym (entries-take w r news) ∙ ap (entries w r) en
       ∙ ap (entries w r) (sym (append-nil (flat new))) ∙ ap (λ (k : ℕ). entries w k (flat new ++ [])) (sym lr) ∙ entries-flat w new [] wide-new in
@@ -173,13 +172,21 @@ module _ (w p : ℕ) (ps words : List ℕ) (order : List ℤ) (m : ℕ) (overs :
         result = rw (← len) (merged-padded w q ps1 stay wide-stay eq qroom is1 news r new wide-new news-are lr room);
       }
 
-  -- the same, from what `retain` and `write_news` ensure
-  pub merges : {ps1 news : List ℕ} {q r : ℕ} → q ≡ length (staying w p 0 (take n overs) ps) → ps1 ≡ retained w p 0 (take n overs) ps
-      → r ≡ length (without (w - 1) words (take n overs) (places_in m order)) → 40960 ≤ length news
-      → take ((w - 1 + 1) * r) news ≡ flat (entries_of (w - 1) words id (without (w - 1) words (take n overs) (places_in m order))) → Merge ps1 news q r
-  merges {ps1} {news} {q} {r} eq e1 er big en =
-      merge ps1 news q r eq e1 er big
-      (subst (λ (k : ℕ). take (k * r) news ≡ flat (entries_of (w - 1) words id (without (w - 1) words (take n overs) (places_in m order)))) (width w (omega (arith, P.wide))) en)
+  -- the same, from what `retain` and `write_news` ensure, with the new entries alone
+  pub merges : (ps1 news : List ℕ) {q r : ℕ} → take n overs ≡ overs → q ≡ length (staying w p 0 overs ps) → ps1 ≡ retained w p 0 overs ps
+      → r ≡ length (without (w - 1) words overs (places_in m order)) → 40960 ≤ length news
+      → take ((w - 1 + 1) * r) news ≡ flat (entries_of (w - 1) words id (without (w - 1) words overs (places_in m order)))
+      → Merge ps1 (take (w * r) news) q (length (take (w * r) news) / w) × (w * r ≤ length news) × (length (take (w * r) news) / w ≡ r)
+  merges ps1 news {q} {r} whole eq e1 er big en =
+      let same : without (w - 1) words overs (places_in m order) ≡ without (w - 1) words (take n overs) (places_in m order) = rw whole in
+      let er' : r ≡ length (without (w - 1) words (take n overs) (places_in m order)) = er ∙ ap length same in
+      let rm : r ≤ m = omega (arith, er', few-new) in
+      let fits : w * r ≤ length news = le_trans (five w r P.narrow (omega (arith, P.few))) big in
+      let long : length (take (w * r) news) ≡ w * r = length-take-le (w * r) news fits in
+      let many : length (take (w * r) news) / w ≡ r = rw long (mul-div_cancel_left r (omega (arith, P.wide))) in
+      let en' : take (w * r) (take (w * r) news) ≡ flat (entries_of (w - 1) words id (without (w - 1) words (take n overs) (places_in m order))) =
+      take-take (w * r) (w * r) news (le_refl (w * r)) ∙ rw same at (rw (width w (omega (arith, P.wide))) at en) in
+      (rw many (merge ps1 (take (w * r) news) q r (eq ∙ ap (λ (o : List ℕ). length (staying w p 0 o ps)) (sym whole)) (e1 ∙ ap (λ (o : List ℕ). retained w p 0 o ps) (sym whole)) er' (omega (arith, long)) en'), fits, many)
 
 -- ---- the stopped keys: entries of one word
 

@@ -4,9 +4,10 @@ use mathlib.Core.Bool.{true, false, cond}
 use mathlib.Core.List.{List, [], ◌∷◌}
 use Prim.Native.Nat.{ℕ, zero, suc, ◌+◌, ◌-◌, ◌/◌, ◌^◌, ◌≤◌, ◌<◌}
 use native.Mathlib.Omega.{arith}
-use lib.IntN.{ℤ}
+use lib.IntN.{ℤ, pos}
 use lib.ListN.{length, get_or, take, length-append}
-use lib.Seq.{length-take-le}
+use lib.Seq.{length-take-le, get_or-take}
+use Rattle.std.proofs.lemmas.List.{take_all}
 use lib.Dec.{ltb}
 use borrow.Author.Tests.{lt-ltb, le-ltb}
 use Rattle.lists.proofs.Tests.{not-both}
@@ -21,6 +22,10 @@ use Rattle.refusals.specs.declared.Refusal.{Refusal}
 use Rattle.refusals.specs.declared.Refusal.TheVariants.{NoPostings, NoStops}
 use Rattle.insert.specs.declared.Plan.{Plan}
 use Rattle.insert.specs.Planned.{Plannable, taken_in, Found, Planned}
+
+-- the first k of a list, cut off, are the first k again
+pub front-whole : {A : Type 0} (k : ℕ) (l : List A) → k ≤ length l → take (length (take k l)) (take k l) ≡ take k l
+front-whole k l h = take_all (length (take k l)) (take k l) (omega arith)
 
 -- as many places as hashes, at most
 length-up_to : (n : ℕ) → length (up_to n) ≡ n
@@ -50,15 +55,28 @@ module _ {w p k : ℕ} {ps ss hashes : List ℕ} (A : Plannable w p k ps ss hash
     by_key word = is-by-key (w - 1) hashes (take k ss) (hash_count w hashes) A.few order m in_order
         (many ∙ sym (length-ordered (w - 1) hashes (take k ss) (hash_count w hashes) A.few)) (omega (arith, few-new)) word
 
+    -- the same of the first m words alone
+    pub by_key-front : ((t : ℕ) → get_or hashes t 0 < 2 ^ 32) → ByKey (take m order) (length (take m order))
+    by_key-front word =
+        let B = by_key word in
+        let la : length (take m order) ≡ m = length-take-le m order B.room in
+        let same : (t : ℕ) → t < length (take m order) → get_or (take m order) t (pos 0) ≡ get_or order t (pos 0) = λ t h. get_or-take m order t (pos 0) (omega arith) in
+        record {
+          room = omega arith;
+          ascend = λ s t a b. let x : s < length (take m order) = omega arith in rw (same s x, same t b) (B.ascend s t a (omega arith));
+          small = λ t b. rw (same t b) (B.small t (omega arith));
+        }
+
     -- there is none for the keys, or there is room
-    module _ {limit : ℕ} (id : ℕ) (overs : List ℕ) {n : ℕ} (few : n ≤ m) (size : 8192 ≤ length overs) (over : OverKeys limit (other_keys w p id ps) (keys_in m order) (take n overs))
+    module _ {limit : ℕ} (id : ℕ) (overs : List ℕ) {n : ℕ} (fewer : n ≤ length (take m order)) (size : 8192 ≤ length overs)
+        (over : OverKeys limit (other_keys w p id ps) (keys_in (length (take m order)) (take m order)) (take n overs))
         (e : ltb (length ps / w) (length (staying w p 1 (id ∷ []) ps) + m) ≡ false) where
       abbrev Is : Result Plan Refusal → Type 0
       Is r = Planned w limit (length ps / w) (length ss) (staying w p 1 (id ∷ []) ps) (take k ss) hashes order overs r
 
       found : Found w limit (staying w p 1 (id ∷ []) ps) (take k ss) hashes order (taken_in w (take k ss) hashes) overs n
       found = subst (λ (a : ℕ). Found w limit (staying w p 1 (id ∷ []) ps) (take k ss) hashes order a overs n) many
-          record { in_order = in_order; above = over; order-room = omega (arith, few-new); overs-room = omega (arith, few-new) }
+          record { in_order = in_order; above = rw (front-whole m order (omega (arith, few-new))) at over; order-room = omega (arith, few-new); overs-room = omega (arith, few-new, length-take-le m order (omega (arith, few-new))) }
 
       planned : (r : Result Plan Refusal) → r ≡ cond (ltb (length ss) (k + n)) (Err NoStops) (Ok (record { hashes = taken_in w (take k ss) hashes; keys = n })) → Is r
       planned r is = record { full = λ q. absurd (not-both q (rw many at e)); fits = λ _. (n, found, rw (length-take-le k ss A.stopped) is) }

@@ -38,18 +38,9 @@ fn place_news(
     ensures posts_after { posts.new ≡ padded (length posts.old)
         (flat (placed_entries w p posts.old hashes.now id (places_in (length order.now) order.now) (take (length overs.now) overs.now))) }
 {
-    let r = insert_merge::write_news(
-        news,
-        order,
-        order.len(),
-        hashes,
-        w - 1,
-        id,
-        overs,
-        overs.len(),
-    );
-    let q = postings::retain(posts, w, p, 0, overs, overs.len(), overs, 0);
-    insert_merge::merge_in(posts, w, q, news, r);
+    let r = insert_merge::write_news(news, order, hashes, w - 1, id, overs);
+    let q = postings::retain(posts, w, p, 0, overs, &[]);
+    insert_merge::merge_in(posts, w, q, &news[..w * r]);
     q + r
 }
 
@@ -58,7 +49,7 @@ fn stop_keys(stops: &mut [u32], k: usize, overs: &[u32])
     requires { Stopping stops.old k overs.now (length overs.now) }
     ensures { stops.new ≡ padded (length stops.old) (place_all (λ x. x) (take (length overs.now) overs.now) (take k stops.old)) }
 {
-    insert_merge::merge_in(stops, 1, k, overs, overs.len());
+    insert_merge::merge_in(stops, 1, k, overs);
 }
 
 // The id of a new recording, from what is in use.
@@ -81,11 +72,11 @@ fn put_recording(refs: &mut [u32], c: Counts, id: usize, row: Row, p: usize, k: 
     let n = c.rows;
     let v = c.vacant;
     if v == 0 {
-        rows::put_row(refs, id, row, 1);
+        rows::put_row(refs, id, row, true);
         rows::put_header(refs, (n + 1) as u32, 0, p as u32, k as u32);
     } else {
         rows::put_entry(refs, v - 1, 0);
-        rows::put_row(refs, id, row, 1);
+        rows::put_row(refs, id, row, true);
         rows::put_header(refs, n as u32, (v - 1) as u32, p as u32, k as u32);
     }
 }
@@ -166,15 +157,13 @@ pub fn plan_insertion(
     ensures { Planned w limit (length posts.now / w) (length stops.now) (staying w c.postings 1 (id ∷ []) posts.now)
         (take c.stopped stops.now) hashes.now order.new overs.new result }
 {
-    let p = c.postings;
     let k = c.stopped;
-    let v = w - 1;
-    let m = insert_merge::collect(order, hashes, v, hashes.len() / v, stops, k);
+    let m = insert_merge::collect(order, hashes, w - 1, &stops[..k]);
     if lacks_room(posts, w, others, m) {
         return Err(Refusal::NoPostings);
     }
     sorting::sort_words(order, m);
-    let n = insert_merge::over_keys(overs, order, m, posts, w, p, limit, id);
+    let n = insert_merge::over_keys(overs, &order[..m], posts, w, c.postings, limit, id);
     if stops.len() < k + n {
         return Err(Refusal::NoStops);
     }

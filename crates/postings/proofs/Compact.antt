@@ -1,7 +1,9 @@
 -- Entries that are left out: what stands after i entries have been read and q of them stay. Assumes nothing.
 use mathlib.Core.Path.{◌≡◌, refl, sym, ap, ◌∙◌}
 use mathlib.Core.Logic.{⊎_elim}
-use mathlib.Core.Bool.{true, false, cond, or-false}
+use mathlib.Core.Bool.{Bool, true, false, not, cond, or-false}
+use native.Mathlib.Decide.{ℕ_discrete}
+use mir.Val.{bool_byte}
 use mathlib.Core.List.{List, [], ◌∷◌, ◌++◌, append-nil, append_assoc}
 use Prim.Native.Nat.{ℕ, ◌+◌, ◌*◌, ◌-◌, ◌≤◌, ◌<◌, min}
 use native.Mathlib.Nat.{mul-le-mul_left, mul-zero, mul-add}
@@ -10,7 +12,7 @@ use native.Mathlib.Omega.{arith}
 use lib.ListN.{length, get_or, take, drop, replicate, length-append, length-drop}
 use lib.Seq.{drop-drop, get_or-drop, length-take-le}
 use lib.Dec.{eqb}
-use borrow.Author.Tests.{ne_eqb}
+use borrow.Author.Tests.{eq-eqb, ne_eqb}
 use Rattle.lists.specs.Lists.{keep, some?, member, flat}
 use Rattle.lists.specs.Entries.{entries, entry_at, padded, Wide}
 use Rattle.lists.proofs.Tests.{test, le-or-lt}
@@ -71,6 +73,18 @@ staying-all w p f x s h none_is = keep_all (unnamed f (x ∷ [])) (entries w p s
 pub others-none : (w f x : ℕ) (s : List ℕ) → length (staying w 0 f (x ∷ []) s) ≡ 0
 unfolding staying entries keep
 others-none w f x s = refl
+
+-- a flag's number
+pub flag-le : (b : Bool) → bool_byte b ≤ 1
+flag-le true = omega arith
+flag-le false = omega arith
+
+pub flagged : (a x : ℕ) → bool_byte (not (eqb a x)) ≡ cond (eqb x a) 0 1
+flagged a x = go (ℕ_discrete a x)
+  where
+    go : Dec (a ≡ x) → bool_byte (not (eqb a x)) ≡ cond (eqb x a) 0 1
+    go (yes e) = rw (eq-eqb a x e, eq-eqb x a (sym e))
+    go (no e) = rw (ne_eqb a x e, ne_eqb x a (λ f. e (sym f)))
 
 pub others-more : (w f x : ℕ) (s : List ℕ) (i : ℕ) → f < w → length (staying w (i + 1) f (x ∷ []) s) ≡ length (staying w i f (x ∷ []) s) + cond (eqb x (get_or s (w * i + f) 0)) 0 1
 unfolding some?

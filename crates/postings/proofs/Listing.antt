@@ -6,8 +6,8 @@ use mathlib.Core.List.{List, [], ◌∷◌}
 use Prim.Native.Nat.{ℕ, zero, suc, ◌+◌, ◌*◌, ◌≤◌, ◌<◌, min}
 use native.Mathlib.Numerals.{add-one}
 use native.Mathlib.Omega.{arith}
-use lib.ListN.{length, get_or, set, length-set}
-use lib.Seq.{get_or-set_same, get_or-set_other}
+use lib.ListN.{length, get_or, take, set, length-set}
+use lib.Seq.{get_or-set_same, get_or-set_other, get_or-take, length-take-le}
 use lib.Dec.{eqb}
 use Rattle.lists.proofs.Tests.{le-or-lt}
 use Rattle.postings.specs.Retain.{staying, Within, Until, behind_listed, Listed, Noted}
@@ -25,6 +25,21 @@ listed_same t u w p f s l c h d = record {
   next = λ k lt. until-same t u w p f s (behind_listed l k) (get_or l k 0) h (d.next k lt);
   within = d.within;
 }
+
+-- the first c places that a list names, cut off
+behind-front : (l : List ℕ) (c k : ℕ) → c ≤ length l → k ≤ c → behind_listed (take c l) k ≡ behind_listed l k
+unfolding behind_listed
+behind-front l c zero h a = refl
+behind-front l c (suc k) h a = rw (get_or-take c l k 0 (omega arith))
+
+pub listed-front : (t : ℕ → Bool) (w p f : ℕ) (s l : List ℕ) (c : ℕ) → Listed t w p f s l c → Listed t w p f s (take c l) (length (take c l))
+listed-front t w p f s l c d =
+    let n = length-take-le c l d.room in
+    record {
+      room = omega arith;
+      next = λ k h. let a : k < c = omega arith in rw (behind-front l c k d.room (omega arith), get_or-take c l k 0 a) (d.next k a);
+      within = λ k h. let a : k < c = omega arith in rw (get_or-take c l k 0 a) (d.within k a);
+    }
 
 pub behind-none : (l : List ℕ) → behind_listed l 0 ≡ 0
 unfolding behind_listed

@@ -1,7 +1,6 @@
 -- Entries of w words, some of which go. Definitions only. Assumes nothing.
-use Rattle.std.specs.Prelude.{◌≡◌, Bool, true, false, not, List, [], ◌∷◌, ◌++◌, ℕ, zero, suc, ◌+◌, ◌*◌, ◌≤◌, ◌<◌, min, length, get_or, take, drop, eqb}
+use Rattle.std.specs.Prelude.{◌≡◌, Bool, true, false, not, List, [], ◌∷◌, ◌++◌, ℕ, zero, suc, ◌+◌, ◌*◌, ◌≤◌, ◌<◌, min, length, get_or, drop, eqb}
 use Rattle.lists.specs.Lists.{keep, flat, member}
-use Rattle.lists.specs.Keys.{Ascending}
 use Rattle.lists.specs.Entries.{entries, padded}
 
 -- is word f of the entry none of xs?
@@ -21,11 +20,6 @@ pub record Within (w p f : ℕ) (s : List ℕ) (from : ℕ) : Type 0 where
   pub field : f < w
   pub room : w * p ≤ length s
   pub start : from ≤ p
-
--- the first n words of xs, in order
-pub record Names (n : ℕ) (xs : List ℕ) : Type 0 where
-  pub room : n ≤ length xs
-  pub ascending : Ascending (λ k. k) (take n xs)
 
 -- r is the first entry, from `from` on, whose word f passes the test; p where there is none
 pub record Until (t : ℕ → Bool) (w p f : ℕ) (s : List ℕ) (from r : ℕ) : Type 0 where

@@ -1,190 +1,133 @@
-// Entries of w words in a slice: their words, and the compaction that leaves some of them out.
+// Entries of w words in a slice, by one word of each: those that are met are counted, looked for and noted, and some are left out.
 #![tactic(auto)]
 
-ghost use Rattle.std.specs.Prelude.{◌≡◌, cond, [], ◌∷◌, ℕ, ◌+◌, ◌*◌, ◌≤◌, ◌<◌, ◌^◌, min, length, get_or, take, eqb};
+ghost use Rattle.std.specs.Prelude.{◌≡◌, [], ◌∷◌, ◌+◌, ◌*◌, ◌≤◌, ◌<◌, ◌^◌, length, get_or, eqb};
 ghost use Rattle.lists.specs.Lists.{member};
-ghost use Rattle.postings.specs.Retain.{Within, Names, Until, Listed, Noted, staying, retained};
+ghost use Rattle.lists.specs.Keys.{Ascending};
+ghost use Rattle.postings.specs.Retain.{Within, Until, Listed, Noted, staying, retained};
 
-// Word f of entry i.
-pub fn word(posts: &[u32], w: usize, i: usize, f: usize) -> u32
-    requires { w * i + f < length posts.now }
-    ensures { result ≡ get_or posts.now (w * i + f) 0 }
-{
-    posts[w * i + f]
+// The first `count` entries of a slice, `width` words each, and which of their words is looked at.
+#[derive(Clone, Copy)]
+pub struct Entries<'a> {
+    pub words: &'a [u32],
+    pub width: usize,
+    pub count: usize,
+    pub field: usize,
+    ghost within: { Within width count field words.now 0 },
 }
 
-// 0 where two words are equal, else 1.
-fn differ(a: u32, b: u32) -> usize
-    ensures { (result ≡ cond (eqb a b) 0 1) × (result ≤ 1) }
-{
-    if a == b {
-        return 0;
+impl Entries<'_> {
+    // The word of entry i.
+    fn word(self, i: usize) -> u32
+        requires { i < self.count }
+        ensures { result ≡ get_or self.entry.words.now (self.entry.width * i + self.entry.field) 0 }
+    {
+        self.words[self.width * i + self.field]
     }
-    1
-}
 
-// How many of the first n entries have a word f other than x.
-pub fn count_others(posts: &[u32], w: usize, n: usize, f: usize, x: u32) -> usize
-    requires { Within w n f posts.now 0 }
-    ensures { (result ≡ length (staying w n f (x ∷ []) posts.now)) × (result ≤ n) }
-{
-    let mut c = 0;
-    let mut i = 0;
-    while i < n {
-        c += differ(x, word(posts, w, i, f));
-        i += 1;
-    }
-    c
-}
-
-// The first entry, from `from` on, whose word f is x; p where there is none.
-fn until_word(posts: &[u32], w: usize, p: usize, from: usize, f: usize, x: u32) -> usize
-    requires { Within w p f posts.now from }
-    ensures { Until (eqb x) w p f posts.now from result }
-{
-    let mut i = from;
-    while i < p {
-        if x == word(posts, w, i, f) {
-            return i;
+    // How many have a word other than x.
+    pub fn others(self, x: u32) -> usize
+        ensures { (result ≡ length (staying self.entry.width self.entry.count self.entry.field (x ∷ []) self.entry.words.now)) × (result ≤ self.entry.count) }
+    {
+        let mut c = 0;
+        for i in 0..self.count {
+            c += usize::from(self.word(i) != x);
         }
-        i += 1;
+        c
     }
-    i
-}
 
-// The first entry, from `from` on, whose word f is among the first n words of xs; p where there is none.
-fn until_among(
-    posts: &[u32],
-    w: usize,
-    p: usize,
-    from: usize,
-    f: usize,
-    xs: &[u32],
-    n: usize,
-) -> usize
-    requires within { Within w p f posts.now from }
-    requires names { Names n xs.now }
-    ensures { Until (λ x. member x (take n xs.now)) w p f posts.now from result }
-{
-    let mut i = from;
-    while i < p {
-        if maps::contains(xs, n, word(posts, w, i, f)) {
-            return i;
+    // The first, from `from` on, whose word is x; their number where there is none.
+    fn until_word(self, from: usize, x: u32) -> usize
+        requires { from ≤ self.count }
+        ensures { Until (eqb x) self.entry.width self.entry.count self.entry.field self.entry.words.now from result }
+    {
+        for i in from..self.count {
+            if self.word(i) == x {
+                return i;
+            }
         }
-        i += 1;
+        self.count
     }
-    i
+
+    // The first, from `from` on, whose word is among xs; their number where there is none.
+    fn until_among(self, from: usize, xs: &[u32]) -> usize
+        requires { (from ≤ self.count) × Ascending (λ k. k) xs.now }
+        ensures { Until (λ x. member x xs.now) self.entry.width self.entry.count self.entry.field self.entry.words.now from result }
+    {
+        for i in from..self.count {
+            if maps::contains(xs, xs.len(), self.word(i)) {
+                return i;
+            }
+        }
+        self.count
+    }
+
+    // The same, without a search where xs has one word at most.
+    fn kept_until(self, from: usize, xs: &[u32]) -> usize
+        requires { (from ≤ self.count) × Ascending (λ k. k) xs.now }
+        ensures { Until (λ x. member x xs.now) self.entry.width self.entry.count self.entry.field self.entry.words.now from result }
+    {
+        match xs {
+            [] => self.count,
+            [x] => self.until_word(from, *x),
+            _ => self.until_among(from, xs),
+        }
+    }
+
+    // The same: entry k of a list that names the first of them, and behind these it is looked for.
+    fn next_named(self, from: usize, xs: &[u32], list: &[u32], k: usize) -> usize
+        requires from_xs { (from ≤ self.count) × Ascending (λ k. k) xs.now }
+        requires named { k < length list.now → Until (λ x. member x xs.now) self.width self.count self.field self.words.now from (get_or list.now k 0) }
+        ensures until { Until (λ x. member x xs.now) self.entry.width self.entry.count self.entry.field self.entry.words.now from result }
+        ensures value { k < length list.now → result ≡ get_or list.now k 0 }
+    {
+        if k < list.len() {
+            return list[k] as usize;
+        }
+        self.kept_until(from, xs)
+    }
+
+    // Notes entry i in a list, which has c so far, where its word is x and there is room; how many have been met.
+    pub fn note(self, i: usize, x: u32, list: &mut [u32], c: usize) -> usize
+        requires { (i < self.count) × (c ≤ i) × (i < 2 ^ 32) }
+        ensures upper_bound { result ≤ i + 1 }
+        ensures noted { Noted self.entry.width self.entry.count self.entry.field x self.entry.words.now i list.old c
+            → Noted self.entry.width self.entry.count self.entry.field x self.entry.words.now (i + 1) list.new result }
+    {
+        if self.word(i) != x {
+            return c;
+        }
+        if c < list.len() {
+            list[c] = i as u32;
+        }
+        c + 1
+    }
 }
 
-// The same, without a search where n is 0 or 1.
-fn kept_until(
-    posts: &[u32],
-    w: usize,
-    p: usize,
-    from: usize,
-    f: usize,
-    xs: &[u32],
-    n: usize,
-) -> usize
-    requires within { Within w p f posts.now from }
-    requires names { Names n xs.now }
-    ensures { Until (λ x. member x (take n xs.now)) w p f posts.now from result }
-{
-    if n == 0 {
-        return p;
-    }
-    if n == 1 {
-        return until_word(posts, w, p, from, f, slices::at(xs, 0));
-    }
-    until_among(posts, w, p, from, f, xs, n)
-}
-
-// The same: entry k of a list that names the first c of them, and behind these it is looked for.
-fn next_named(
-    posts: &[u32],
-    w: usize,
-    p: usize,
-    from: usize,
-    f: usize,
-    xs: &[u32],
-    n: usize,
-    list: &[u32],
-    c: usize,
-    k: usize,
-) -> usize
-    requires within { Within w p f posts.now from }
-    requires names { Names n xs.now }
-    requires c_in_bounds { (c ≤ length list.now) × (k < c → Until (λ x. member x (take n xs.now)) w p f posts.now from (get_or list.now k 0)) }
-    ensures until { Until (λ x. member x (take n xs.now)) w p f posts.now from result }
-    ensures value { k < c → result ≡ get_or list.now k 0 }
-{
-    if k < c {
-        return slices::size(slices::at(list, k));
-    }
-    kept_until(posts, w, p, from, f, xs, n)
-}
-
-// Notes entry i in a list, which has c so far, where its word f is x and there is room; how many have been met.
-pub fn note(
-    list: &mut [u32],
-    c: usize,
-    posts: &[u32],
-    w: usize,
-    i: usize,
-    f: usize,
-    x: u32,
-) -> usize
-    requires { (f < w) × (w * i + f < length posts.now) × (c ≤ i) × (i < 2 ^ 32) }
-    ensures upper_bound { result ≤ i + 1 }
-    ensures by_index { (p : ℕ) → i < p → Noted w p f x posts.now i list.old c → Noted w p f x posts.now (i + 1) list.new result }
-{
-    if x != word(posts, w, i, f) {
-        return c;
-    }
-    if c < list.len() {
-        list[c] = i as u32;
-        return c + 1;
-    }
-    c + 1
-}
-
-// The entry behind entry i, or the end p.
-fn behind(i: usize, p: usize) -> usize
-    ensures { result ≡ min (i + 1) p }
-{
-    if i < p {
-        return i + 1;
-    }
-    p
-}
-
-// Keeps, in order, those of the first p entries whose word f is none of the first n words of xs, which ascend strictly.
-// The words that are freed become zero. How many entries stay. A list may name the first c of those that go.
-pub fn retain(
-    posts: &mut [u32],
-    w: usize,
-    p: usize,
-    f: usize,
-    xs: &[u32],
-    n: usize,
-    list: &[u32],
-    c: usize,
-) -> usize
+// Keeps, in order, those of the first p entries whose word f is none of xs, which ascend strictly. The words that are freed become zero.
+// How many entries stay. A list may name the first of those that go.
+pub fn retain(posts: &mut [u32], w: usize, p: usize, f: usize, xs: &[u32], list: &[u32]) -> usize
     requires within { Within w p f posts.old 0 }
-    requires names { Names n xs.now }
-    requires listed { Listed (λ x. member x (take n xs.now)) w p f posts.old list.now c }
-    ensures value { result ≡ length (staying w p f (take n xs.now) posts.old) }
-    ensures posts_after { posts.new ≡ retained w p f (take n xs.now) posts.old }
+    requires ascending { Ascending (λ k. k) xs.now }
+    requires listed { Listed (λ x. member x xs.now) w p f posts.old list.now (length list.now) }
+    ensures value { result ≡ length (staying w p f xs.now posts.old) }
+    ensures posts_after { posts.new ≡ retained w p f xs.now posts.old }
 {
     let mut i = 0;
     let mut q = 0;
     let mut k = 0;
+    // a turn is a run of entries that stay
     while i < p {
-        let e = next_named(posts, w, p, i, f, xs, n, list, c, k);
-        let run = e - i;
-        slices::move_down(posts, w * q, w * i, w * run);
-        q += run;
-        i = behind(e, p);
+        let entries = Entries {
+            words: posts,
+            width: w,
+            count: p,
+            field: f,
+        };
+        let e = entries.next_named(i, xs, list, k);
+        slices::move_down(posts, w * q, w * i, w * (e - i));
+        q += e - i;
+        i = (e + 1).min(p);
         k += 1;
     }
     slices::clear(posts, w * q, w * p);

@@ -47,21 +47,20 @@ fn vacate(refs: &mut [u32], id: u32, held: u32)
         rmax: 0,
         set: 0,
     };
-    rows::put_row(refs, id as usize, row, 0);
+    rows::put_row(refs, id as usize, row, false);
     rows::put_entry(refs, v as usize, id);
     rows::put_header(refs, n, v + 1, held, k);
 }
 
-// The postings of id go, of which a list may name the first c, and it is vacated.
-pub fn erase(refs: &mut [u32], posts: &mut [u32], w: usize, id: u32, list: &[u32], c: usize)
+// The postings of id go, of which a list may name the first, and it is vacated.
+pub fn erase(refs: &mut [u32], posts: &mut [u32], w: usize, id: u32, list: &[u32])
     requires erasable { Erasable w refs.old posts.old id }
-    requires listed { Listed (eqb id) w (get_or refs.old 2 0) 1 posts.old list.now c }
+    requires listed { Listed (eqb id) w (get_or refs.old 2 0) 1 posts.old list.now (length list.now) }
     ensures refs_after { refs.new ≡ vacated refs.old id (length (others w refs.old posts.old id)) }
     ensures posts_after { posts.new ≡ others_left w refs.old posts.old id }
 {
     let p = refs[2] as usize;
-    let ids = [id];
-    let q = postings::retain(posts, w, p, 1, &ids, 1, list, c);
+    let q = postings::retain(posts, w, p, 1, &[id], list);
     vacate(refs, id, q as u32);
 }
 
@@ -88,6 +87,6 @@ pub fn remove(
         return Ok(false);
     }
     // no place is listed
-    erase(refs, posts, w, id, stops, 0);
+    erase(refs, posts, w, id, &[]);
     Ok(true)
 }

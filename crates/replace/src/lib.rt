@@ -46,7 +46,8 @@ fn swap(
         h.postings - own,
         limit,
     )?;
-    remove::erase(refs, posts, w, id, list, own.min(list.len()));
+    let listed = own.min(list.len());
+    remove::erase(refs, posts, w, id, &list[..listed]);
     // the list has served, and its words take the new entries
     Ok(insert::write_recording(
         refs,

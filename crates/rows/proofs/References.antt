@@ -14,13 +14,13 @@ use Rattle.model.specs.Rows.{Row}
 use Rattle.model.specs.Words.{row_words, row_entries, head_width, row_width, row_place, at_rate, at_rmax, at_live, at_vacant, at_set}
 use Rattle.rows.specs.References.{header_put, row_put, entry_put, headed}
 
-pub header-again : (rs : List ℕ) (n v p k : ℕ) → head_width ≤ length rs → set (set (set (set rs 0 n) 1 v) 2 p) 3 k ≡ header_put rs n v p k
+pub header_again : (rs : List ℕ) (n v p k : ℕ) → head_width ≤ length rs → set (set (set (set rs 0 n) 1 v) 2 p) 3 k ≡ header_put rs n v p k
 unfolding header_put
-header-again [] n v p k h = absurd (omega arith)
-header-again (a ∷ []) n v p k h = absurd (omega arith)
-header-again (a ∷ b ∷ []) n v p k h = absurd (omega arith)
-header-again (a ∷ b ∷ c ∷ []) n v p k h = absurd (omega arith)
-header-again (a ∷ b ∷ c ∷ d ∷ rs) n v p k h = refl
+header_again [] n v p k h = absurd (omega arith)
+header_again (a ∷ []) n v p k h = absurd (omega arith)
+header_again (a ∷ b ∷ []) n v p k h = absurd (omega arith)
+header_again (a ∷ b ∷ c ∷ []) n v p k h = absurd (omega arith)
+header_again (a ∷ b ∷ c ∷ d ∷ rs) n v p k h = refl
 
 set-behind : (xs ys : List ℕ) (i a : ℕ) → set (xs ++ ys) (length xs + i) a ≡ xs ++ set ys i a
 set-behind [] ys i a = rw zero-add

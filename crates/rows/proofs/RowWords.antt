@@ -15,13 +15,13 @@ use Rattle.lists.proofs.Entries.{entries-suc, entry-word}
 use Rattle.model.specs.Fingerprints.{Hash, hash_of, hashes_of}
 use Rattle.model.specs.Rows.{canonical, no_rate, has_rmax, anchor, largest_anchor}
 
-pub canonical-nan : (rate : ℕ) → 0x7F80_0000 < rate % 0x8000_0000 → no_rate ≡ canonical rate
+pub canonical_nan : (rate : ℕ) → 0x7F80_0000 < rate % 0x8000_0000 → no_rate ≡ canonical rate
 unfolding canonical
-canonical-nan rate h = rw (nan_bits_above binary32 rate ∙ lt-ltb (ones binary32 * hid binary32) (rate % top binary32) h)
+canonical_nan rate h = rw (nan_bits_above binary32 rate ∙ lt-ltb (ones binary32 * hid binary32) (rate % top binary32) h)
 
-pub canonical-same : (rate : ℕ) → rate % 0x8000_0000 ≤ 0x7F80_0000 → rate ≡ canonical rate
+pub canonical_same : (rate : ℕ) → rate % 0x8000_0000 ≤ 0x7F80_0000 → rate ≡ canonical rate
 unfolding canonical
-canonical-same rate h = rw (nan_bits_above binary32 rate ∙ le-ltb (ones binary32 * hid binary32) (rate % top binary32) h)
+canonical_same rate h = rw (nan_bits_above binary32 rate ∙ le-ltb (ones binary32 * hid binary32) (rate % top binary32) h)
 
 largest-snoc : (hs : List Hash) (h : Hash) → largest_anchor (hs ++ h ∷ []) ≡ max (largest_anchor hs) (anchor h)
 unfolding largest_anchor

@@ -1,15 +1,13 @@
 // The references' words: the header, rows and vacant entries; what a fingerprint's words say.
 #![tactic(auto)]
 
-ghost use Rattle.std.specs.Prelude.{◌≡◌, cond, map, ◌+◌, ◌*◌, ◌<◌, ◌≤◌, max, length, set as set_at};
+ghost use Rattle.std.specs.Prelude.{◌≡◌, cond, map, ◌+◌, ◌*◌, ◌/◌, ◌<◌, ◌≤◌, length, set as set_at};
 ghost use Rattle.lists.specs.Entries.{entries};
 ghost use Rattle.model.specs.Fingerprints.{hash_of, hashes_of, malformed};
 ghost use Rattle.model.specs.Rows.{has_rmax, largest_anchor, canonical, is_set};
 ghost use Rattle.model.specs.Soundness.{row_word};
 ghost use Rattle.model.specs.Words.{head_width, row_width, row_place};
 ghost use Rattle.rows.specs.References.{CountsOf, header_put, row_put, entry_put};
-
-use slices::size;
 
 // "4 words (rows n, vacant v, postings p, stopped k), then R rows" of 5 words: "rate bits, r_max, live (1 or 0), vacant entry", "its set"
 pub const HEAD_WIDTH: usize = 4;
@@ -55,14 +53,15 @@ pub fn header(refs: &[u32]) -> Counts
     ensures { CountsOf refs.now result }
 {
     Counts {
-        rows: size(refs[0]),
-        vacant: size(refs[1]),
-        postings: size(refs[2]),
-        stopped: size(refs[3]),
+        rows: refs[0] as usize,
+        vacant: refs[1] as usize,
+        postings: refs[2] as usize,
+        stopped: refs[3] as usize,
     }
 }
 
 // Writes the first four words.
+#[tactic(auto, using(crate::proofs::References::header_again), unfolding(crate::specs::References::header_put))]
 pub fn put_header(refs: &mut [u32], n: u32, v: u32, p: u32, k: u32)
     requires { head_width ≤ length refs.old }
     ensures { refs.new ≡ header_put refs.old n v p k }
@@ -89,18 +88,20 @@ fn put_word(refs: &mut [u32], j: usize, f: usize, x: u32)
     refs[ROW_WIDTH * j + (HEAD_WIDTH + f)] = x;
 }
 
-// Writes row j but for its vacant entry.
-pub fn put_row(refs: &mut [u32], j: usize, row: Row, live: u32)
+// Writes row j, of a recording that is live or dead, but for its vacant entry.
+#[tactic(auto, unfolding(crate::specs::References::row_put))]
+pub fn put_row(refs: &mut [u32], j: usize, row: Row, live: bool)
     requires { head_width + row_width * (j + 1) ≤ length refs.old }
-    ensures { refs.new ≡ row_put refs.old j row.rate row.rmax live row.set }
+    ensures { refs.new ≡ row_put refs.old j row.rate row.rmax (cond live 1 0) row.set }
 {
     put_word(refs, j, AT_RATE, row.rate);
     put_word(refs, j, AT_RMAX, row.rmax);
-    put_word(refs, j, AT_LIVE, live);
+    put_word(refs, j, AT_LIVE, u32::from(live));
     put_word(refs, j, AT_SET, row.set);
 }
 
 // Writes vacant entry i.
+#[tactic(auto, unfolding(crate::specs::References::entry_put))]
 pub fn put_entry(refs: &mut [u32], i: usize, id: u32)
     requires { head_width + row_width * (i + 1) ≤ length refs.old }
     ensures { refs.new ≡ entry_put refs.old i id }
@@ -109,34 +110,24 @@ pub fn put_entry(refs: &mut [u32], i: usize, id: u32)
 }
 
 // A NaN's word becomes the one word that a store has for it.
+#[tactic(auto, using(crate::proofs::RowWords::canonical_nan, crate::proofs::RowWords::canonical_same))]
 fn canonical_rate(rate: u32) -> u32
     ensures { result ≡ canonical rate }
 {
     if 0x7F80_0000 < rate % 0x8000_0000 {
-        return NO_RATE;
+        NO_RATE
+    } else {
+        rate
     }
-    rate
 }
 
-fn larger(a: u32, b: u32) -> u32
-    ensures { result ≡ max a b }
+// The largest t_anchor of Wang's hashes, 2 words each.
+fn largest_anchor(hashes: &[u32]) -> u32
+    ensures { result ≡ largest_anchor (map hash_of (entries 2 (length hashes.now / 2) hashes.now)) }
 {
-    if a < b {
-        return b;
-    }
-    a
-}
-
-// The largest t_anchor of n hashes of v words.
-fn largest_anchor(hashes: &[u32], v: usize, n: usize) -> u32
-    requires { (2 ≤ v) × (v * n ≤ length hashes.now) }
-    ensures { result ≡ largest_anchor (map hash_of (entries v n hashes.now)) }
-{
-    let mut top = 0;
-    let mut j = 0;
-    while j < n {
-        top = larger(top, postings::word(hashes, v, j, 1));
-        j += 1;
+    let mut top: u32 = 0;
+    for j in 0..hashes.len() / 2 {
+        top = top.max(hashes[2 * j + 1]);
     }
     top
 }
@@ -146,17 +137,15 @@ pub fn row_max(hashes: &[u32], w: usize) -> u32
     requires { 3 ≤ w }
     ensures { result ≡ cond (has_rmax w) (largest_anchor (hashes_of w hashes.now)) 0 }
 {
-    if w == 3 {
-        return largest_anchor(hashes, 2, hashes.len() / 2);
-    }
-    0
+    if w == 3 { largest_anchor(hashes) } else { 0 }
 }
 
 // Whether a recording can be of this set.
+#[tactic(auto, using(std::proofs::lemmas::Bool::Decides::nat_tests), unfolding(model::specs::Rows::is_set))]
 pub fn is_set(set: u32) -> bool
     ensures { result ≡ is_set set }
 {
-    (0 < set) & (set <= SET_MOST)
+    0 < set && set <= SET_MOST
 }
 
 // The row of a recording, from its hashes, its rate and its set.
@@ -172,13 +161,11 @@ pub fn row_of(hashes: &[u32], w: usize, rate: u32, set: u32) -> Row
 }
 
 // Whether the words are no whole hashes, or more than `most` of them.
+#[tactic(auto, using(std::proofs::lemmas::Bool::Decides::nat_tests), unfolding(model::specs::Fingerprints::malformed))]
 pub fn is_malformed(hashes: &[u32], w: usize, most: usize) -> bool
     requires { 3 ≤ w }
     ensures { result ≡ malformed w most hashes.now }
 {
     let v = w - 1;
-    if hashes.len() % v != 0 {
-        return true;
-    }
-    most < hashes.len() / v
+    hashes.len() % v != 0 || most < hashes.len() / v
 }

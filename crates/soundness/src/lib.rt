@@ -11,6 +11,7 @@ ghost use Rattle.model.specs.Soundness.{row_word, counts_fit, dead_row, vacant_e
 ghost use Rattle.refusals.specs.Numbers.{number_in};
 ghost use Rattle.soundness.specs.Scan.{words, set_test, row_test, row_fine, entry_fine, rows_sound, postings_sound, stops_ascend, stopped_sound, refusal_of, Met, Fits};
 
+use postings::Entries;
 use refusals::Refusal;
 use rows::{AT_LIVE, AT_RATE, AT_RMAX, AT_SET, AT_VACANT, Counts, HEAD_WIDTH, NO_RATE, ROW_WIDTH};
 use slices::is_zero_from;
@@ -214,6 +215,12 @@ impl UsedPostings<'_> {
         requires { self.count < 2 ^ 32 }
         ensures { Met self.entry.width rows.entry.refs.now rows.entry.count self.entry.words.now self.entry.count id list.new result }
     {
+        let entries = Entries {
+            words: self.words,
+            width: self.width,
+            count: self.count,
+            field: 1,
+        };
         let mut last = 0;
         let mut own = 0;
         for i in 0..self.count {
@@ -221,7 +228,7 @@ impl UsedPostings<'_> {
             if key < last || !self.is_fine(rows, i) {
                 return Err(Refusal::Unsound);
             }
-            own = postings::note(list, own, self.words, self.width, i, 1, id);
+            own = entries.note(i, id, list, own);
             last = key;
         }
         Ok(own)

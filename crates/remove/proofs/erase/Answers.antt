@@ -2,7 +2,7 @@
 use mathlib.Core.Path.{◌∙◌}
 use native.Mathlib.Omega.{arith}
 use mathlib.Core.List.{[], ◌∷◌}
-use lib.ListN.{get_or}
+use lib.ListN.{length, get_or}
 use lib.Dec.{eqb}
 use Rattle.lists.specs.Lists.{member}
 use Rattle.postings.proofs.Names.{member-one}
@@ -15,8 +15,8 @@ retain-q-requires c =
     let s = c.args in
     record {
       within = record { field = omega arith; room = c.requires.erasable.held; start = omega arith };
-      names = record { room = omega arith; ascending = (tt, tt) };
-      listed = listed_same (λ x. member x (s.id ∷ [])) (eqb s.id) s.w (get_or s.refs.now 2 0) 1 s.posts.now s.list.now s.c (λ x. member-one x (s.id ∷ []) (omega arith)) c.requires.listed;
+      ascending = (tt, tt);
+      listed = listed_same (λ x. member x (s.id ∷ [])) (eqb s.id) s.w (get_or s.refs.now 2 0) 1 s.posts.now s.list.now (length s.list.now) (λ x. member-one x (s.id ∷ []) (omega arith) (omega arith)) c.requires.listed;
     }
 
 pub overflow_cast-q : goal.overflow_cast-q

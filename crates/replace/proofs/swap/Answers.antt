@@ -1,7 +1,9 @@
 -- `replace::swap` meets its contract. Assumes nothing.
-use Rattle.std.proofs.Common.{refl, sym, arith, length}
+use Rattle.std.proofs.Common.{eqb, get_or, refl, sym, arith, length}
 use Rattle.std.proofs.lemmas.List.{length-take-le}
 use Rattle.std.proofs.lemmas.Result.{err_from_is_err_and}
+use Rattle.postings.specs.Retain.{Listed}
+use Rattle.postings.proofs.Listing.{listed-front}
 use Rattle.remove.specs.Erasing.{vacated, others, others_left}
 use Rattle.replace.proofs.Swapped.{may-plan, others-many, may-erase, head_in, row_in, order-fits, overs-fit, may_write, swap-refused, swap-stored}
 use Rattle.replace.proofs.swap.Goals as goal
@@ -51,3 +53,9 @@ returns c =
     let k = c.write_recording.ensures in
     swap-stored s.w s.refs.now s.posts.now s.stops.now s.hashes.now s.id c.requires.replaceable c.erase.new.refs c.erase.new.posts c.erase.ensures.refs_after c.erase.ensures.posts_after s.limit s.rate c.header-h.result c.header-h.ensures _ _ _ c.in_ok-plan.ensures c.in_ok-plan.plan refl
     c.row_word-set.result _ _ _ _ c.row_word-set.ensures k.value k.refs_after k.posts_after k.stops_after
+
+pub erase-requires-clause-listed : goal.erase-requires-clause-listed
+erase-requires-clause-listed c =
+    let s = c.args in
+    let d : Listed (eqb s.id) s.w (get_or s.refs.now 2 0) 1 s.posts.now s.list.now c.min-listed.result = rw c.min-listed.ensures c.requires.noted.0.listed in
+    listed-front _ _ _ _ _ _ _ d
