@@ -6,8 +6,8 @@ use Rattle.std.specs.Float.{binary32, binary64}
 use Rattle.std.specs.Float.Ieee.{of_bits, of_int, to_bits}
 use Rattle.maps.specs.Bins.{offset, votes}
 use Rattle.floats.specs.Rounding.{round_to_i64}
-use Rattle.consolidate.specs.declared.Mode.{Mode}
-use Rattle.consolidate.specs.declared.Mode.TheVariants.{Offset, Nothing}
+use Rattle.std.specs.Prelude.{Some, None}
+use Rattle.std.specs.Prelude as code
 use Rattle.consolidate.specs.declared.Peak.{Peak}
 use Rattle.consolidate.specs.Modes.{mode}
 use Rattle.consolidate.specs.Box.{box_peak}
@@ -16,8 +16,7 @@ use Rattle.hough.specs.Hough.{hough_peak, peak_offset}
 use Rattle.model.specs.Calls.{Answer, built, stored, removed, count, best, nothing, refused}
 use Rattle.model.specs.Words.{Words, head_width, row_width}
 use Rattle.model.specs.Run.{run_insert, run_remove}
-use Rattle.matching.specs.declared.TriedOffset.{TriedOffset}
-use Rattle.matching.specs.declared.TriedOffset.TheVariants as tried-offset
+use Rattle.matching.specs.declared.TimeOffset.{TimeOffset}
 use Rattle.matching.specs.Offsets.{millis, try_from_frames}
 use Rattle.matching.specs.Rates.{rates_agree}
 use Rattle.matching.specs.Scores.{wang_prominence, score_of}
@@ -62,15 +61,15 @@ single word = of_bits binary32 word
 abbrev is32 : Float → ℕ → Bool
 is32 x word = eqb (to_bits binary32 x) word
 
-abbrev is_at : Mode → ℤ → Bool
-is_at Nothing z = false
-is_at (Offset d) z = same_ℤ d z
+abbrev is_at : code.Option ℤ → ℤ → Bool
+is_at None z = false
+is_at (Some d) z = same_ℤ d z
 
-abbrev is_tried : TriedOffset → ℤ → Option ℤ → Bool
-is_tried tried-offset.Nothing frames none = true
-is_tried tried-offset.Nothing frames (some ms) = false
-is_tried (tried-offset.Offset t) frames none = false
-is_tried (tried-offset.Offset t) frames (some ms) = same_ℤ t.frames frames && same_ℤ t.ms ms
+abbrev is_tried : code.Option TimeOffset → ℤ → Option ℤ → Bool
+is_tried None frames none = true
+is_tried None frames (some ms) = false
+is_tried (Some t) frames none = false
+is_tried (Some t) frames (some ms) = same_ℤ t.frames frames && same_ℤ t.ms ms
 
 -- how many bins of so many words the list has
 abbrev bins_in : ℕ → List ℤ → ℕ

@@ -1,35 +1,35 @@
 -- Laws of the loops over a line's words. Assumes nothing.
-use mathlib.Core.Path.{◌≡◌, ap, sym, ◌∙◌}
-use mathlib.Core.Bool.{Bool, ◌&&◌}
-use mathlib.Core.List.{List}
-use Prim.Native.Nat.{ℕ, ◌+◌, ◌*◌, ◌%◌, ◌^◌, ◌<◌}
-use native.Mathlib.Numerals.{add-one}
-use lib.Dec.{leb}
-use lib.ListN.{length, get_or, take, set}
-use lib.Seq.{take-suc-set, take-length}
+use Rattle.std.proofs.Common.{◌≡◌, true, false, List, ℕ, ◌+◌, ◌*◌, ◌%◌, ◌^◌, ◌<◌, ◌≢◌, eqb, leb, length, get_or, take, set, add-one}
+use lib.Seq.{take-suc-set}
+use borrow.Author.Tests.{ne_eqb}
 use Rattle.lists.specs.Every.{every}
-use Rattle.lists.proofs.Every.{every-suc}
+use Rattle.lists.proofs.Every.{every-fail}
+use Rattle.replay_text.specs.Words.{padded_to, same_at, holds, pair_of, holds_pairs}
 use Rattle.replay_text.specs.Digits.{word_at, first_words}
-use Rattle.replay_text.specs.Words.{padded_to, same_at, holds}
 
--- a flag that every turn's test is joined to
-pub flag-turn : (t : ℕ → Bool) (n : ℕ) {b x : Bool} → b ≡ every n t → x ≡ t n → b && x ≡ every (n + 1) t
-flag-turn t n e h = rw (add-one, every-suc, e, h)
+module _ (s ws : List ℕ) where
+  pub differs : (i : ℕ) → i < length s → get_or s i 0 ≢ get_or ws i 0 → false ≡ holds s ws
+  unfolding holds
+  differs i l e = rw (every-fail (same_at s ws) (length s) i l (ne_eqb (get_or s i 0) (get_or ws i 0) e))
+
+  pub holds-end : every (length s) (same_at s ws) ≡ true → leb (length ws) (length s) ≡ holds s ws
+  unfolding holds
+  holds-end e = rw e
+
+  pub pairs-differ : (i : ℕ) → i < 8 → get_or s i 0 ≢ pair_of ws i → false ≡ holds_pairs s ws
+  unfolding holds_pairs
+  pairs-differ i l e = rw (every-fail (λ i. eqb (get_or s i 0) (pair_of ws i)) 8 i l (ne_eqb (get_or s i 0) (pair_of ws i) e))
+
+  pub pairs-end : every 8 (λ i. eqb (get_or s i 0) (pair_of ws i)) ≡ true → leb (length ws) 16 ≡ holds_pairs s ws
+  unfolding holds_pairs
+  pairs-end e = rw e
 
 module _ (s ws : List ℕ) (i : ℕ) where
-  pub holds-end : {b : Bool} → i ≡ length s → b ≡ every i (same_at s ws) → b && leb (length ws) (length s) ≡ holds s ws
-  unfolding holds
-  holds-end l e = rw (e, l)
-
   pub put-turn : (x : ℕ) → i < length s → take i s ≡ padded_to i ws → x ≡ get_or ws i 0 → take (i + 1) (set s i x) ≡ padded_to (i + 1) ws
   unfolding padded_to
   put-turn x l e h = rw (add-one i, take-suc-set s i x, e, h)
 
-  pub put-end : i ≡ length s → take i s ≡ padded_to i ws → s ≡ padded_to (length s) ws
-  put-end l e = sym (take-length s) ∙ sym (ap (λ (n : ℕ). take n s) l) ∙ e ∙ ap (λ (n : ℕ). padded_to n ws) l
-
--- one more word of a line
-module _ (s ws : List ℕ) (i : ℕ) where
+  -- one more word of a line
   pub word-turn : (x : ℕ) → i < length ws → take i ws ≡ first_words i s → x ≡ word_at s (9 * i + 1) % 2 ^ 32 → take (i + 1) (set ws i x) ≡ first_words (i + 1) s
   unfolding first_words
   word-turn x l e h = rw (add-one i, take-suc-set ws i x, e, h)

@@ -3,65 +3,49 @@
 
 mod contents;
 
-ghost use Rattle.std.specs.Prelude.{◌≡◌, true, ◌+◌, ◌*◌, ◌%◌, ◌^◌, ◌≤◌, ◌<◌, length, get_or, take};
+ghost use Rattle.std.specs.Prelude.{◌≡◌, true, false, MatchOption, ◌+◌, ◌*◌, ◌%◌, ◌^◌, ◌≤◌, ◌<◌, length, get_or, take};
 ghost use Rattle.lists.specs.Every.{every};
 ghost use Rattle.replay_text.specs.Digits.{digit_of, pair_at, are_pair, word_at, is_word, word_stands, first_words};
 ghost use Rattle.replay_text.specs.Words.{padded_to, holds, pair_of, holds_pairs};
 
-pub use contents::run_contents;
-use slices::wide;
+pub use contents::{Contents, UnknownLetter, run_contents};
 
 // ---- words as text
 
-// The value of a hexadecimal digit, 16 for another byte.
-fn digit_of(b: u8) -> u64
-    ensures value { result ≡ digit_of b }
-    ensures upper_bound { result ≤ 16 }
+// The value of a hexadecimal digit.
+fn digit_of(b: u8) -> Option<u32>
+    ensures { MatchOption result (digit_of b ≡ 16) (λ d. (d < 16) × (d ≡ digit_of b)) }
 {
-    if (48 <= b) & (b <= 57) {
-        return (b - 48) as u64;
+    match b {
+        b'0'..=b'9' => Some(u32::from(b - b'0')),
+        b'A'..=b'F' => Some(u32::from(b - b'A') + 10),
+        _ => None,
     }
-    if (65 <= b) & (b <= 70) {
-        return (b - 55) as u64;
-    }
-    16
 }
 
 // The number of two digits.
-fn pair_at(text: &[u8], at: usize) -> u64
+#[tactic(auto, unfolding(crate::specs::Digits::are_pair, crate::specs::Digits::pair_at))]
+fn pair_at(text: &[u8], at: usize) -> Option<u32>
     requires { at + 2 ≤ length text.now }
-    ensures value { result ≡ pair_at text.now at }
-    ensures upper_bound { result ≤ 272 }
+    ensures { MatchOption result (are_pair text.now at ≡ false)
+        (λ n. (n < 256) × (are_pair text.now at ≡ true) × (n ≡ pair_at text.now at)) }
 {
-    digit_of(text[at]) * 16 + digit_of(text[at + 1])
+    Some(digit_of(text[at])? * 16 + digit_of(text[at + 1])?)
 }
 
-// Whether both are digits.
-fn are_pair(text: &[u8], at: usize) -> bool
-    requires { at + 2 ≤ length text.now }
-    ensures { result ≡ are_pair text.now at }
-{
-    (digit_of(text[at]) < 16) & (digit_of(text[at + 1]) < 16)
-}
-
-// The number of eight digits.
-pub fn word_at(text: &[u8], at: usize) -> u32
-    requires { at + 8 ≤ length text.now }
-    ensures { result ≡ word_at text.now at % 2 ^ 32 }
-{
-    let high = pair_at(text, at) * 256 + pair_at(text, at + 2);
-    let low = pair_at(text, at + 4) * 256 + pair_at(text, at + 6);
-    ((high * 65536 + low) % 4294967296) as u32
-}
-
-// Whether a blank and eight digits stand there.
-pub fn is_word(text: &[u8], at: usize) -> bool
+// The number of eight digits behind a blank.
+#[tactic(auto, unfolding(crate::specs::Digits::is_word, crate::specs::Digits::word_at))]
+pub fn word_at(text: &[u8], at: usize) -> Option<u32>
     requires { at + 9 ≤ length text.now }
-    ensures { result ≡ is_word text.now at }
+    ensures { MatchOption result (is_word text.now at ≡ false)
+        (λ w. (is_word text.now at ≡ true) × (w ≡ word_at text.now (at + 1) % 2 ^ 32)) }
 {
-    let high = are_pair(text, at + 1) & are_pair(text, at + 3);
-    let low = are_pair(text, at + 5) & are_pair(text, at + 7);
-    (text[at] == 32) & high & low
+    if text[at] != b' ' {
+        return None;
+    }
+    let high = pair_at(text, at + 1)? * 256 + pair_at(text, at + 3)?;
+    let low = pair_at(text, at + 5)? * 256 + pair_at(text, at + 7)?;
+    Some(high * 65536 + low)
 }
 
 // Whether n words stand at the beginning of a text, each behind a blank: they are then put at the beginning of `words`.
@@ -70,14 +54,11 @@ pub fn read_words(text: &[u8], n: usize, words: &mut [u32]) -> bool
     ensures value { result ≡ every n (word_stands text.now) }
     ensures words_after { result ≡ true → take n words.new ≡ first_words n text.now }
 {
-    let mut i: usize = 0;
-    while i < n {
-        let at = 9 * i;
-        if !is_word(text, at) {
-            return false;
+    for i in 0..n {
+        match word_at(text, 9 * i) {
+            Some(word) => words[i] = word,
+            None => return false,
         }
-        words[i] = word_at(text, at + 1);
-        i += 1;
     }
     true
 }
@@ -88,20 +69,15 @@ pub fn read_words(text: &[u8], n: usize, words: &mut [u32]) -> bool
 fn padded(words: &[u32], i: usize) -> u32
     ensures { result ≡ get_or words.now i 0 }
 {
-    if i < words.len() {
-        return words[i];
-    }
-    0
+    words.get(i).copied().unwrap_or(0)
 }
 
 // Puts a line's words at the beginning of a slice, and zeros behind them.
 pub fn put(slice: &mut [u32], words: &[u32])
     ensures { slice.new ≡ padded_to (length slice.old) words.now }
 {
-    let mut i: usize = 0;
-    while i < slice.len() {
-        slice[i] = padded(words, i);
-        i += 1;
+    for (i, x) in slice.iter_mut().enumerate() {
+        *x = padded(words, i);
     }
 }
 
@@ -109,13 +85,12 @@ pub fn put(slice: &mut [u32], words: &[u32])
 pub fn is_held(slice: &[u32], words: &[u32]) -> bool
     ensures { result ≡ holds slice.now words.now }
 {
-    let mut same = true;
-    let mut i: usize = 0;
-    while i < slice.len() {
-        same = same & (slice[i] == padded(words, i));
-        i += 1;
+    for (i, x) in slice.iter().enumerate() {
+        if *x != padded(words, i) {
+            return false;
+        }
     }
-    same & (words.len() <= slice.len())
+    words.len() <= slice.len()
 }
 
 // The word of 64 bits whose halves are words 2 i and 2 i + 1.
@@ -123,18 +98,17 @@ fn pair_of(words: &[u32], i: usize) -> u64
     requires { i < 8 }
     ensures { result ≡ pair_of words.now i }
 {
-    wide(padded(words, 2 * i)) * 4294967296 + wide(padded(words, 2 * i + 1))
+    u64::from(padded(words, 2 * i)) * 4294967296 + u64::from(padded(words, 2 * i + 1))
 }
 
 // Whether the eight words of an answer have a line's halves, and zeros behind them.
 pub fn is_answered(answer: &[u64; 8], words: &[u32]) -> bool
     ensures { result ≡ holds_pairs answer.now words.now }
 {
-    let mut same = true;
-    let mut i: usize = 0;
-    while i < 8 {
-        same = same & (answer[i] == pair_of(words, i));
-        i += 1;
+    for (i, x) in answer.iter().enumerate() {
+        if *x != pair_of(words, i) {
+            return false;
+        }
     }
-    same & (words.len() <= 16)
+    words.len() <= 16
 }

@@ -1,16 +1,13 @@
 -- Laws of a record's length, for every kind together. Assumes nothing.
-use mathlib.Core.Path.{◌≡◌, refl, sym, ap, ◌∙◌}
-use mathlib.Core.Bool.{Bool, true, false, ◌&&◌, ◌||◌}
-use mathlib.Core.List.{List, [], ◌∷◌}
-use mathlib.Core.Option.{none, some}
+use mathlib.Core.Path.{◌≡◌, sym, ap, ◌∙◌}
+use mathlib.Core.Bool.{Bool, true, ◌&&◌, ◌||◌}
+use mathlib.Core.Option.{some}
 use Prim.Native.Nat.{ℕ, ◌+◌, ◌*◌, ◌-◌, ◌/◌, ◌%◌, ◌≤◌}
 use native.Mathlib.Omega.{arith}
 use lib.Dec.{eqb, leb}
-use lib.ListN.{length}
-use borrow.Author.Tests.{eqb-true, eqb-false, leb-true, ne_eqb}
-use Rattle.lists.specs.Lists.{All}
-use Rattle.lists.proofs.Tests.{test, maybe, not-both, and_left, and_right}
-use Rattle.sheet_kinds.specs.Kinds.{Kind, kinds, look_up, kind_of, least, fits_kind, fits, good_length}
+use borrow.Author.Tests.{eqb-true, leb-true}
+use Rattle.lists.proofs.Tests.{maybe, not-both, and_left, and_right}
+use Rattle.sheet_kinds.specs.Kinds.{Kind, kind_of, least, fits_kind, fits, good_length}
 
 -- what a good length says
 pub record Long (len n : ℕ) : Type 0 where
@@ -56,19 +53,6 @@ good-long len b h =
 pub good-words : (len b n : ℕ) → good_length len b ≡ true → n ≡ (len - 1) / 4 → good_length (4 * n + 1) b ≡ true
 good-words len b n h e = let l = good-long len b h in let f : 4 * n + 1 ≡ len = omega (arith, l.words) in rw f h
 
--- its fixed fields are among them
-pub good-fields : (n b : ℕ) (k : Kind) → kind_of b ≡ some k → good_length (4 * n + 1) b ≡ true → k.fields ≤ n
-good-fields n b k e h = omega (arith, (fits-long (4 * n + 1) k (good-by (4 * n + 1) b k e ∙ h)).fixed)
-
--- a byte that no row has
-unlisted : (b : ℕ) (ks : List Kind) → All (λ k. b ≡ k.byte → ⊥) ks → look_up b ks ≡ none
-unlisted b [] h = refl
-unlisted b (k ∷ ks) h = rw (ne_eqb k.byte b (λ e. h.0 (sym e))) (unlisted b ks h.1)
-
-pub no_length : (len b : ℕ) → All (λ k. b ≡ k.byte → ⊥) kinds → false ≡ good_length len b
-unfolding good_length
-no_length len b h = sym (ap (fits len) (unlisted b kinds h))
-
--- the one kind that is left, where a byte is none of the others'
-pub good-else : (len b c : ℕ) → good_length len b ≡ true → ((b ≡ c → ⊥) → All (λ k. b ≡ k.byte → ⊥) kinds) → b ≡ c
-good-else len b c h f = test (eqb b c) (λ e. eqb-true b c e) (λ e. absurd (not-both h (sym (no_length len b (f (eqb-false b c e))))))
+-- the fixed fields of a record of a kind are among its words
+pub fits-fields : (n : ℕ) (k : Kind) → fits_kind (4 * n + 1) k ≡ true → k.fields ≤ n
+fits-fields n k h = omega (arith, (fits-long (4 * n + 1) k h).fixed)

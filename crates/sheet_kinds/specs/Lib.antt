@@ -1,2 +1,3 @@
 -- The kinds of records.
 pub mod Kinds
+pub mod Bytes

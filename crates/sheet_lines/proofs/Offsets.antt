@@ -1,17 +1,12 @@
 -- Laws of an offset's text. Assumes nothing.
 use mathlib.Core.Path.{◌≡◌}
 use mathlib.Core.List.{[], ◌∷◌, ◌++◌}
-use mathlib.Core.Bool.{Bool, cond}
 use Prim.Native.Nat.{ℕ, ◌^◌, ◌<◌}
-use lib.IntN.{ℤ}
-use lib.Signed.{mag, non_neg}
+use lib.Signed.{mag}
 use Rattle.maps.proofs.Words.{word, read_is}
 use Rattle.matching.specs.declared.TimeOffset.{TimeOffset}
 use Rattle.sheet_text.specs.Bytes.{signed, field}
 use Rattle.sheet_lines.specs.Lines.{place, offset_text}
-
-pub place_is : (z : ℤ) (v : Bool) → non_neg z ≡ v → cond v 73 69 ≡ place z
-place_is z v e = rw e
 
 pub offset-is : (t : TimeOffset) (p : ℕ) → mag t.frames < 2 ^ 63 → mag t.ms < 2 ^ 63 → p ≡ place (word t.frames)
     → field (signed (word t.frames)) ++ field (signed (word t.ms)) ++ field (p ∷ []) ≡ offset_text t

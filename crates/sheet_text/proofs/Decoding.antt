@@ -4,24 +4,11 @@ use mathlib.Core.List.{List, [], ◌∷◌, ◌++◌, map, map-append}
 use Prim.Native.Nat.{ℕ, ◌+◌, ◌*◌, ◌-◌, ◌/◌, ◌<◌}
 use native.Mathlib.Numerals.{add-one}
 use native.Mathlib.Omega.{arith}
-use lib.ListN.{length, get_or, take, drop, set, length-drop}
-use lib.Seq.{get_or-take, get_or-drop, drop-drop, take-suc-set}
+use lib.ListN.{length, take, drop, set, length-drop}
+use lib.Seq.{drop-drop, take-suc-set}
 use Rattle.lists.specs.Entries.{entries, entry_at}
 use Rattle.lists.proofs.Entries.{entries_none, entries-suc}
 use Rattle.sheet_text.specs.Bytes.{big_endian, words_of, fields_of}
-
-part : (s : List ℕ) (at k : ℕ) → k < 4 → get_or (take 4 (drop at s)) k 0 ≡ get_or s (at + k) 0
-part s at k h = get_or-take 4 (drop at s) k 0 h ∙ get_or-drop at s k 0
-
-pub word-is : (s : List ℕ) (at a b c d : ℕ) → a ≡ get_or s at 0 → b ≡ get_or s (at + 1) 0 → c ≡ get_or s (at + 2) 0 → d ≡ get_or s (at + 3) 0
-    → a * 16777216 + b * 65536 + (c * 256 + d) ≡ big_endian (take 4 (drop at s))
-word-is s at a b c d ea eb ec ed =
-    let z : at + 0 ≡ at = omega arith in
-    let pa : get_or (take 4 (drop at s)) 0 0 ≡ a = part s at 0 (omega arith) ∙ ap (λ (k : ℕ). get_or s k 0) z ∙ sym ea in
-    let pb : get_or (take 4 (drop at s)) 1 0 ≡ b = part s at 1 (omega arith) ∙ sym eb in
-    let pc : get_or (take 4 (drop at s)) 2 0 ≡ c = part s at 2 (omega arith) ∙ sym ec in
-    let pd : get_or (take 4 (drop at s)) 3 0 ≡ d = part s at 3 (omega arith) ∙ sym ed in
-    omega (arith, pa, pb, pc, pd)
 
 pub fields-none : (bytes words : List ℕ) → take 0 words ≡ map big_endian (entries 4 0 (drop 1 bytes))
 fields-none bytes words = rw (entries_none 4 (drop 1 bytes))

@@ -2,16 +2,12 @@
 ghost use Rattle.std.specs.Prelude.{◌≡◌, ◌+◌, ◌-◌, ◌/◌, ◌≤◌, ◌<◌, length, take, drop};
 ghost use Rattle.sheet_text.specs.Bytes.{big_endian, fields_of};
 
-use slices::wide_byte;
-
 // The word at a place.
 pub fn word_at(s: &[u8], at: usize) -> u32
     requires { at + 4 ≤ length s.now }
     ensures { result ≡ big_endian (take 4 (drop at s.now)) }
 {
-    let high = wide_byte(s[at]) * 16777216 + wide_byte(s[at + 1]) * 65536;
-    let low = wide_byte(s[at + 2]) * 256 + wide_byte(s[at + 3]);
-    (high + low) as u32
+    u32::from_be_bytes([s[at], s[at + 1], s[at + 2], s[at + 3]])
 }
 
 // The fields of a record as words, and how many there are.
@@ -22,10 +18,8 @@ pub fn read_fields(bytes: &[u8], words: &mut [u32]) -> usize
     ensures upper_bound { result ≤ length words.new }
 {
     let n = (bytes.len() - 1) / 4;
-    let mut i: usize = 0;
-    while i < n {
+    for i in 0..n {
         words[i] = word_at(bytes, 4 * i + 1);
-        i += 1;
     }
     n
 }

@@ -25,19 +25,16 @@ pub fn put_bytes(line: &mut [u8], at: usize, text: &[u8]) -> usize
     requires { at + length text.now ≤ length line.old }
     ensures { Put line.old line.new at result text.now }
 {
-    let mut i: usize = 0;
-    while i < text.len() {
-        line[at + i] = text[i];
-        i += 1;
-    }
-    at + i
+    let end = at + text.len();
+    line[at..end].copy_from_slice(text);
+    end
 }
 
 fn digit(d: u64) -> u8
     requires { d < 10 }
     ensures { result ≡ 48 + d }
 {
-    48 + d as u8
+    b'0' + d as u8
 }
 
 fn put_digits(line: &mut [u8], at: usize, n: u64) -> usize
@@ -56,9 +53,9 @@ fn hex_digit(d: u32) -> u8
     ensures { result ≡ hex_digit d }
 {
     if d < 10 {
-        return 48 + d as u8;
+        return b'0' + d as u8;
     }
-    55 + d as u8
+    b'A' - 10 + d as u8
 }
 
 // The last k hexadecimal digits of n.
@@ -80,7 +77,7 @@ pub fn put_number(line: &mut [u8], at: usize, n: u64) -> usize
     ensures put { Put line.old line.new at result (field (decimal n)) }
     ensures upper_bound { result ≤ at + 21 }
 {
-    let start = put_byte(line, at, 32);
+    let start = put_byte(line, at, b' ');
     put_digits(line, start, n)
 }
 
@@ -90,10 +87,10 @@ fn put_sign(line: &mut [u8], at: usize, x: i64) -> usize
     ensures put { Put line.old line.new at result (sign x) }
     ensures upper_bound { result ≤ at + 1 }
 {
-    if signed::is_natural(x) {
+    if x >= 0 {
         return at;
     }
-    put_byte(line, at, 45)
+    put_byte(line, at, b'-')
 }
 
 pub fn put_signed(line: &mut [u8], at: usize, x: i64) -> usize
@@ -101,10 +98,9 @@ pub fn put_signed(line: &mut [u8], at: usize, x: i64) -> usize
     ensures put { Put line.old line.new at result (field (signed x)) }
     ensures upper_bound { result ≤ at + 22 }
 {
-    let n = signed::unsigned_abs(x);
-    let start = put_byte(line, at, 32);
+    let start = put_byte(line, at, b' ');
     let digits = put_sign(line, start, x);
-    put_digits(line, digits, n)
+    put_digits(line, digits, x.unsigned_abs())
 }
 
 pub fn put_bits(line: &mut [u8], at: usize, x: f32) -> usize
@@ -113,7 +109,7 @@ pub fn put_bits(line: &mut [u8], at: usize, x: f32) -> usize
     ensures upper_bound { result ≤ at + 9 }
 {
     let word = floats::f32_to_bits(x);
-    let start = put_byte(line, at, 32);
+    let start = put_byte(line, at, b' ');
     put_hex(line, start, word, 8)
 }
 
@@ -122,7 +118,7 @@ pub fn put_letter(line: &mut [u8], at: usize, b: u8) -> usize
     ensures put { Put line.old line.new at result (field (b ∷ [])) }
     ensures upper_bound { result ≤ at + 2 }
 {
-    let start = put_byte(line, at, 32);
+    let start = put_byte(line, at, b' ');
     put_byte(line, start, b)
 }
 
@@ -134,5 +130,5 @@ pub fn put_short(line: &mut [u8], at: usize, letter: u8, n: u64) -> usize
 {
     let start = put_byte(line, at, letter);
     let end = put_number(line, start, n);
-    put_byte(line, end, 10)
+    put_byte(line, end, b'\n')
 }
