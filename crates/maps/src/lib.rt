@@ -1,7 +1,7 @@
 // Sorted slices: the first entry at a key, the part under one key, and words of scratch.
 #![tactic(auto)]
 
-ghost use Rattle.std.specs.Prelude.{◌≡◌, true, ◌+◌, ◌*◌, ◌-◌, ◌≤◌, ◌<◌, ◌^◌, min, pos, length, get_or, take, drop, set, replicate};
+ghost use Rattle.std.specs.Prelude.{◌≡◌, true, ◌+◌, ◌*◌, ◌-◌, ◌≤◌, ◌<◌, ◌^◌, pos, length, get_or, take, set, replicate};
 ghost use Rattle.lists.specs.Lists.{flat, member};
 ghost use Rattle.lists.specs.Entries.{entries, key_of, key_at, keys_ascend};
 ghost use Rattle.lists.specs.Keys.{under, Ascending};
@@ -140,10 +140,4 @@ pub fn zero_words(s: &mut [i64])
     ensures { s.new ≡ replicate (length s.old) (pos 0) }
 {
     s.fill(0);
-}
-
-pub fn smaller(a: u64, b: u64) -> u64
-    ensures { result ≡ min a b }
-{
-    a.min(b)
 }

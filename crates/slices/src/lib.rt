@@ -1,38 +1,9 @@
 // Words of a slice: read, widened, copied, moved, zeroed.
 #![tactic(auto)]
 
-ghost use Rattle.std.specs.Prelude.{◌≡◌, ◌++◌, ◌+◌, ◌-◌, ◌≤◌, ◌<◌, ◌^◌, length, get_or, take, replicate};
+ghost use Rattle.std.specs.Prelude.{◌≡◌, ◌++◌, ◌+◌, ◌-◌, ◌≤◌, length, take, replicate};
 ghost use Rattle.lists.specs.Entries.{zero_from};
 ghost use Rattle.slices.specs.Parts.{pasted, cleared};
-
-// Word i.
-pub fn at(s: &[u32], i: usize) -> u32
-    requires { i < length s.now }
-    ensures { result ≡ get_or s.now i 0 }
-{
-    s[i]
-}
-
-// A word as a size.
-pub fn size(x: u32) -> usize
-    ensures { result ≡ x }
-{
-    x as usize
-}
-
-// A word as a wider number.
-pub fn wide(x: u32) -> u64
-    ensures { (result ≡ x) × (result < 2 ^ 32) }
-{
-    u64::from(x)
-}
-
-// A byte as a wider number.
-pub fn wide_byte(b: u8) -> u64
-    ensures { (result ≡ b) × (result < 256) }
-{
-    u64::from(b)
-}
 
 // n words of src, from `from` on, go to dst at `to`.
 pub fn copy_words(dst: &mut [u32], to: usize, src: &[u32], from: usize, n: usize)
