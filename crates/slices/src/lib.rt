@@ -1,4 +1,4 @@
-// Words of a slice: read, widened, copied, moved, zeroed.
+// Words of a slice: copied, moved, zeroed; whether they are zero.
 #![tactic(auto)]
 
 ghost use Rattle.std.specs.Prelude.{◌≡◌, ◌++◌, ◌+◌, ◌-◌, ◌≤◌, length, take, replicate};
