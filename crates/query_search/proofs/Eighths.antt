@@ -1,6 +1,9 @@
 -- Slices that are filled from the front, and the windows of the search after its first three levels: what seven pivots say of where a key begins.
 -- Assumes nothing.
-use Rattle.std.proofs.Common.{◌≡◌, ℕ, ◌+◌, ◌-◌, ◌*◌, ◌^◌, ◌<◌, ◌≤◌, Bool, true, false, ltb, ◌⊎◌, List, length, get_or, set, sym, refl, ap, ◌∙◌, subst, inl, inr, mul_assoc, mul_comm, add-mul, eq-or-lt_of_le, one-mul, zero-add, zero-mul, arith, length-set, get_or-set_other, get_or-set_same, ltb-false, ltb-true}
+use Rattle.std.proofs.Common.{◌≡◌, ℕ, ◌+◌, ◌-◌, ◌*◌, ◌^◌, ◌<◌, ◌≤◌, Bool, true, false, ltb, ◌⊎◌, List, [], ◌∷◌, ◌++◌, map, take, length, get_or, set, sym, refl, ap, ◌∙◌, subst, inl, inr, mul_assoc, mul_comm, add-mul, eq-or-lt_of_le, one-mul, zero-add, zero-mul, arith, length-set, get_or-set_other, get_or-set_same, ltb-false, ltb-true}
+use Rattle.std.proofs.lemmas.List.{take_more}
+use mathlib.Core.List.{map-append}
+use Rattle.lists.specs.Lists.{sum}
 use Rattle.lists.specs.Entries.{key_at, keys_ascend}
 use Rattle.lists.proofs.Tests.{test}
 use Rattle.lists.proofs.Entries.{stride}
@@ -8,7 +11,6 @@ use Rattle.maps.specs.Sums.{when}
 use Rattle.maps.specs.Entries.{first_at}
 use Rattle.maps.proofs.Entries.{first-splits, first-after, first-upto}
 use Rattle.query_search.specs.Starts.{pivots_below, Window, Placed, Windows, Sought}
-use Rattle.query_search.specs.declared.Pivots.{Pivots}
 use Rattle.query_search.proofs.Steps.{few-entries, few_words}
 
 -- ---- the first i elements are those of f, and the others as they were
@@ -32,6 +34,21 @@ filled_more f s₀ s i x F l e = record {
     at j (inr k) = get_or-set_other s i j x 0 (λ q. omega arith) ∙ F.done j k
 
 -- ---- pivots
+
+sum-one : (l : List ℕ) (n : ℕ) → sum (l ++ n ∷ []) ≡ sum l + n
+unfolding sum
+sum-one [] n = omega arith
+sum-one (x ∷ l) n = let ih = sum-one l n in omega arith
+
+pub pivots-none : (qs : List ℕ) (key : ℕ) → pivots_below (take 0 qs) key ≡ 0
+unfolding pivots_below sum
+pivots-none qs key = refl
+
+pub pivots-more : (qs : List ℕ) (key i : ℕ) → i < length qs → pivots_below (take (i + 1) qs) key ≡ pivots_below (take i qs) key + when (ltb (get_or qs i 0) key) 1
+unfolding pivots_below
+pivots-more qs key i lt =
+    let f = λ (q : ℕ). when (ltb q key) 1 in
+    ap (λ (l : List ℕ). sum (map f l)) (take_more qs i 0 lt) ∙ ap sum (map-append f (take i qs) (get_or qs i 0 ∷ [])) ∙ sum-one (map f (take i qs)) (f (get_or qs i 0))
 
 -- a key begins behind `on` postings, of `passed` that were looked at, and at most a step behind them where some were not passed
 record Behind (first step passed on : ℕ) : Type 0 where
@@ -77,14 +94,14 @@ module _ (ps : List ℕ) (w p key step : ℕ) (t : keys_ascend ps w p ≡ true) 
   abbrev pivot_at : ℕ → ℕ
   pivot_at j = key_at ps w (j * step - 1)
 
-  abbrev pivots_at : Pivots
-  pivots_at = record { p1 = pivot_at 1; p2 = pivot_at 2; p3 = pivot_at 3; p4 = pivot_at 4; p5 = pivot_at 5; p6 = pivot_at 6; p7 = pivot_at 7 }
+  abbrev pivots_at : List ℕ
+  pivots_at = pivot_at 1 ∷ pivot_at 2 ∷ pivot_at 3 ∷ pivot_at 4 ∷ pivot_at 5 ∷ pivot_at 6 ∷ pivot_at 7 ∷ []
 
   abbrev below_all : ℕ
   below_all = pivots_below pivots_at key
 
   behind-all : 7 * step ≤ p → Behind first step (7 * step) (below_all * step)
-  unfolding pivots_below
+  unfolding pivots_below sum
   behind-all l =
       let a = rw zero-add at (behind_more 0 (1 * step) 0 (omega arith) (omega arith) behind-none) in
       let b = behind_more _ (2 * step) _ (omega arith) (omega arith) a in
@@ -92,7 +109,8 @@ module _ (ps : List ℕ) (w p key step : ℕ) (t : keys_ascend ps w p ≡ true) 
       let d = behind_more _ (4 * step) _ (omega arith) (omega arith) c in
       let e = behind_more _ (5 * step) _ (omega arith) (omega arith) d in
       let f = behind_more _ (6 * step) _ (omega arith) (omega arith) e in
-      behind_more _ (7 * step) _ (omega arith) (omega arith) f
+      let g = behind_more _ (7 * step) _ (omega arith) (omega arith) f in
+      subst (λ (n : ℕ). Behind first step (7 * step) (n * step)) (omega arith) g
 
   -- the window that is left
   window-behind : (len on : ℕ) → 7 * step + len ≡ p → step ≤ len → Behind first step (7 * step) on → Window ps w p key len on
@@ -110,34 +128,29 @@ module _ (ps : List ℕ) (w p key step : ℕ) (t : keys_ascend ps w p ≡ true) 
   }
 
 -- the windows of all hashes, their keys having been put in place of the starts
-pub windows-spread : (ps : List ℕ) (w p : ℕ) (hs : List ℕ) (h m step len size : ℕ) (q : Pivots) (keys starts : List ℕ)
+pub windows-spread : (ps : List ℕ) (w p : ℕ) (hs : List ℕ) (h m step len size q1 q2 q3 q4 q5 q6 q7 : ℕ) (keys starts : List ℕ)
     → Sought ps w p hs h m → 1 ≤ step → 7 * step + len ≡ p → step ≤ len → m ≤ length starts → size ≡ w * step
-    → q.p1 ≡ key_at ps w (1 * step - 1) → q.p2 ≡ key_at ps w (2 * step - 1) → q.p3 ≡ key_at ps w (3 * step - 1) → q.p4 ≡ key_at ps w (4 * step - 1)
-    → q.p5 ≡ key_at ps w (5 * step - 1) → q.p6 ≡ key_at ps w (6 * step - 1) → q.p7 ≡ key_at ps w (7 * step - 1)
+    → q1 ≡ key_at ps w (1 * step - 1) → q2 ≡ key_at ps w (2 * step - 1) → q3 ≡ key_at ps w (3 * step - 1) → q4 ≡ key_at ps w (4 * step - 1)
+    → q5 ≡ key_at ps w (5 * step - 1) → q6 ≡ key_at ps w (6 * step - 1) → q7 ≡ key_at ps w (7 * step - 1)
     → ((i : ℕ) → i < m → get_or keys i 0 ≡ key_at hs h i)
-    → ((i : ℕ) → i < m → get_or starts i 0 ≡ pivots_below q (get_or keys i 0) * size)
+    → ((i : ℕ) → i < m → get_or starts i 0 ≡ pivots_below (q1 ∷ q2 ∷ q3 ∷ q4 ∷ q5 ∷ q6 ∷ q7 ∷ []) (get_or keys i 0) * size)
     → Windows ps w p hs h m len starts
-windows-spread ps w p hs h m step len size q keys starts S some el l long es e1 e2 e3 e4 e5 e6 e7 ks fs = record {
+windows-spread ps w p hs h m step len size q1 q2 q3 q4 q5 q6 q7 keys starts S some el l long es e1 e2 e3 e4 e5 e6 e7 ks fs = record {
   long = long;
   each = λ i k. placed-behind ps w p (key_at hs h i) step S.ascend some len (get_or starts i 0) el l (at i (ks i k) (fs i k));
 }
   where
-    stated : Pivots
-    stated = record {
-      p1 = key_at ps w (1 * step - 1);
-      p2 = key_at ps w (2 * step - 1);
-      p3 = key_at ps w (3 * step - 1);
-      p4 = key_at ps w (4 * step - 1);
-      p5 = key_at ps w (5 * step - 1);
-      p6 = key_at ps w (6 * step - 1);
-      p7 = key_at ps w (7 * step - 1);
-    }
+    stated : List ℕ
+    stated = key_at ps w (1 * step - 1) ∷ key_at ps w (2 * step - 1) ∷ key_at ps w (3 * step - 1) ∷ key_at ps w (4 * step - 1) ∷ key_at ps w (5 * step - 1) ∷ key_at ps w (6 * step - 1) ∷ key_at ps w (7 * step - 1) ∷ []
 
-    same : q ≡ stated
-    same = λ i. record { p1 = e1 i; p2 = e2 i; p3 = e3 i; p4 = e4 i; p5 = e5 i; p6 = e6 i; p7 = e7 i }
+    same : (q1 ∷ q2 ∷ q3 ∷ q4 ∷ q5 ∷ q6 ∷ q7 ∷ []) ≡ stated
+    same = rw (e1, e2, e3, e4, e5, e6, e7)
 
-    at : (i : ℕ) → get_or keys i 0 ≡ key_at hs h i → get_or starts i 0 ≡ pivots_below q (get_or keys i 0) * size → get_or starts i 0 ≡ pivots_below stated (key_at hs h i) * (w * step)
-    at i a b = b ∙ ap (λ (k : ℕ). pivots_below q k * size) a ∙ ap (λ (r : Pivots). pivots_below r (key_at hs h i) * size) same ∙ ap (λ (z : ℕ). pivots_below stated (key_at hs h i) * z) es
+    at : (i : ℕ) → get_or keys i 0 ≡ key_at hs h i → get_or starts i 0 ≡ pivots_below (q1 ∷ q2 ∷ q3 ∷ q4 ∷ q5 ∷ q6 ∷ q7 ∷ []) (get_or keys i 0) * size
+        → get_or starts i 0 ≡ pivots_below stated (key_at hs h i) * (w * step)
+    at i a b =
+        b ∙ ap (λ (k : ℕ). pivots_below (q1 ∷ q2 ∷ q3 ∷ q4 ∷ q5 ∷ q6 ∷ q7 ∷ []) k * size) a
+        ∙ ap (λ (r : List ℕ). pivots_below r (key_at hs h i) * size) same ∙ ap (λ (z : ℕ). pivots_below stated (key_at hs h i) * z) es
 
 -- ---- what is read is there, and numbers stay small
 module _ (ps : List ℕ) (w p : ℕ) (hs : List ℕ) (h m : ℕ) (S : Sought ps w p hs h m) where

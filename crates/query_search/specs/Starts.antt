@@ -6,7 +6,6 @@ use Rattle.lists.specs.Keys.{under}
 use Rattle.lists.specs.Entries.{key_at, key_of, keys_ascend}
 use Rattle.maps.specs.Sums.{when}
 use Rattle.maps.specs.Entries.{first_at}
-use Rattle.query_search.specs.declared.Pivots.{Pivots}
 
 -- "starting wherever that key begins": start i is the word at which the first posting stands that has the key of hash i, or one above it
 pub record Starts (ps : List ℕ) (w p : ℕ) (hs : List ℕ) (h m : ℕ) (starts : List ℕ) : Type 0 where
@@ -26,9 +25,8 @@ pub record Zeros (m : ℕ) (starts : List ℕ) : Type 0 where
   pub zero : (i : ℕ) → i < m → slice_index starts i ≡ 0
 
 -- how many of the pivots are below a key
-unfoldable pub pivots_below : Pivots → ℕ → ℕ
-pivots_below p key =
-    when (nat_lt p.p1 key) 1 + when (nat_lt p.p2 key) 1 + when (nat_lt p.p3 key) 1 + when (nat_lt p.p4 key) 1 + when (nat_lt p.p5 key) 1 + when (nat_lt p.p6 key) 1 + when (nat_lt p.p7 key) 1
+unfoldable pub pivots_below : List ℕ → ℕ → ℕ
+pivots_below ps key = sum (map (λ p. when (nat_lt p key) 1) ps)
 
 -- the postings under a key begin at one of the `len` postings from `start` on, or just behind them
 pub record Window (ps : List ℕ) (w p key len start : ℕ) : Type 0 where

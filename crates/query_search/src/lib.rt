@@ -45,45 +45,24 @@ fn moved(lasts: &[u32], at: u32, by: u32, key: u32) -> u32
     at + step(lasts[at as usize], key, by)
 }
 
-// 1 where x is below the key, and 0 where not.
-fn below(x: u32, key: u32) -> u32
-    ensures { (result ≡ when (nat_lt x key) 1) × (result ≤ 1) }
-{
-    u32::from(x < key)
-}
-
-// The keys that end the first seven eighths of the postings.
-#[derive(Clone, Copy)]
-pub struct Pivots {
-    pub p1: u32,
-    pub p2: u32,
-    pub p3: u32,
-    pub p4: u32,
-    pub p5: u32,
-    pub p6: u32,
-    pub p7: u32,
-}
-
 // How many of the pivots are below a key.
-fn passed(p: Pivots, key: u32) -> u32
-    ensures { (result ≡ pivots_below p key) × (result ≤ 7) }
+fn passed(pivots: [u32; 7], key: u32) -> u32
+    ensures { (result ≡ pivots_below pivots key) × (result ≤ 7) }
 {
-    below(p.p1, key)
-        + below(p.p2, key)
-        + below(p.p3, key)
-        + below(p.p4, key)
-        + below(p.p5, key)
-        + below(p.p6, key)
-        + below(p.p7, key)
+    let mut n = 0;
+    for pivot in &pivots {
+        n += u32::from(*pivot < key);
+    }
+    n
 }
 
 // In place of each of m keys, `size` for every pivot that is below it. The compiler does several keys at a time.
-fn spread(starts: &mut [u32], m: usize, p: Pivots, size: u32)
+fn spread(starts: &mut [u32], m: usize, pivots: [u32; 7], size: u32)
     requires { (m ≤ length starts.old) × (7 * size < 2 ^ 32) }
-    ensures { (i : ℕ) → i < m → slice_index starts.new i ≡ pivots_below p (slice_index starts.old i) * size }
+    ensures { (i : ℕ) → i < m → slice_index starts.new i ≡ pivots_below pivots (slice_index starts.old i) * size }
 {
     for i in 0..m {
-        starts[i] = passed(p, starts[i]) * size;
+        starts[i] = passed(pivots, starts[i]) * size;
     }
 }
 
@@ -201,15 +180,16 @@ impl<'a, const W: usize, const H: usize> Search<'a, W, H> {
         }
         let step = self.count / 8;
         let size = (W * step) as u32;
-        let pivots = Pivots {
-            p1: self.pivot(step, 1),
-            p2: self.pivot(step, 2),
-            p3: self.pivot(step, 3),
-            p4: self.pivot(step, 4),
-            p5: self.pivot(step, 5),
-            p6: self.pivot(step, 6),
-            p7: self.pivot(step, 7),
-        };
+        // The keys that end the first seven eighths of the postings.
+        let pivots = [
+            self.pivot(step, 1),
+            self.pivot(step, 2),
+            self.pivot(step, 3),
+            self.pivot(step, 4),
+            self.pivot(step, 5),
+            self.pivot(step, 6),
+            self.pivot(step, 7),
+        ];
         self.copy_keys(starts);
         spread(starts, self.hash_count, pivots, size);
         (self.count - 7 * step) as u32
@@ -221,6 +201,7 @@ impl<'a, const W: usize, const H: usize> Search<'a, W, H> {
         ensures { Starts self.entry.posts.now W self.entry.count self.entry.hashes.now H self.entry.hash_count starts.new }
     {
         let mut len = self.first_windows(starts);
+        // It steps by three levels.
         while 0 < len {
             self.narrow(starts, len);
             len = len / 2 / 2 / 2;

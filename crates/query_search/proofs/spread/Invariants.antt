@@ -5,4 +5,4 @@ use Rattle.query_search.proofs.Eighths.{Filled}
 use Rattle.query_search.proofs.spread.Given as goal
 
 abbrev pub invariant-loop-i : goal.invariant-loop-i
-invariant-loop-i l = Filled (λ j. pivots_below l.p (get_or l.initial.starts j 0) * l.size) l.initial.starts l.starts l.i
+invariant-loop-i l = Filled (λ j. pivots_below l.pivots (get_or l.initial.starts j 0) * l.size) l.initial.starts l.starts l.i

@@ -14,7 +14,7 @@ spread-requires g c =
 pub returns : goal.returns
 returns g c =
     let s = c.args.self in (
-      windows-spread s.posts.now g.row.W s.count s.hashes.now g.row.H s.hash_count (s.count / 8) _ _ _ c.copy_keys.new.starts _
+      windows-spread s.posts.now g.row.W s.count s.hashes.now g.row.H s.hash_count (s.count / 8) _ _ _ _ _ _ _ _ _ c.copy_keys.new.starts _
           s.sought (omega (arith, c.if-self-lt8.false)) (omega arith) (omega arith)
           (omega (arith, c.requires.long, c.copy_keys.auto.starts, c.spread.auto.starts)) refl
           c.pivot.ensures
