@@ -98,9 +98,9 @@ pub fn fits(
 
 // A query hash as its votes have it: its span, and the scale grid of the query.
 #[derive(Clone, Copy)]
-pub struct QueryHash {
-    pub grid: ScaleGrid,
-    pub span: Span,
+struct QueryHash {
+    grid: ScaleGrid,
+    span: Span,
     ghost limited: { Limited grid },
 }
 

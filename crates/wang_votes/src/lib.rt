@@ -15,9 +15,9 @@ use query_search::{Search, Voters, Votes};
 
 // A query hash as its votes have it: its position, and how far its anchor lies below the largest.
 #[derive(Clone, Copy)]
-pub struct QueryHash {
-    pub shift: u64,
-    pub position: u64,
+struct QueryHash {
+    shift: u64,
+    position: u64,
     ghost shift_fits: { shift < 2 ^ 32 },
     ghost position_fits: { position < 2 ^ 11 },
 }
