@@ -19,7 +19,6 @@ use Rattle.model.specs.Words.{read_posting}
 use Rattle.model.specs.Query.{Scheme, gather}
 use Rattle.query_search.specs.Gathered.{found, words_by, Pairing, words_from}
 use Rattle.query_search.specs.Voting.{may_vote, voting}
-use Rattle.query_search.specs.declared.Voters.{Voters}
 use Rattle.query_laws.specs.Candidates.{Reading, of_recording, votes_of}
 
 module _ (S : Scheme) (R : Reading S.Vote) (a : S.Ask) (pair : Pairing) where
@@ -136,9 +135,9 @@ module _ (pair : Pairing) (P : ℤ → Type 0) where
       (words-all k Q E f es F hs G.1 (suc i) (omega arith))
 
 -- what holds of each posting holds of those that vote
-pub all-voting : (P : List ℕ → Type 0) (v : Voters) (rs : List ℕ) (es : List (List ℕ)) → All P es → All P (voting v rs es)
+pub all-voting : (P : List ℕ → Type 0) (set : ℕ) (rs : List ℕ) (es : List (List ℕ)) → All P es → All P (voting set rs es)
 unfolding voting
-all-voting P v rs es h = all_keep P (λ e. may_vote v rs (get_or e 1 0)) es h
+all-voting P set rs es h = all_keep P (λ e. may_vote set rs (get_or e 1 0)) es h
 
 -- no postings, no votes
 pub gather_none : (S : Scheme) (a : S.Ask) (i : ℕ) (hs : List Hash) → gather S a i hs [] ≡ []

@@ -27,7 +27,6 @@ use Rattle.model.proofs.Best.{best-ext}
 use Rattle.model.proofs.Sets.{held-votes}
 use Rattle.query_search.specs.Gathered.{Pairing, words_from}
 use Rattle.query_search.specs.Voting.{may_vote, voting}
-use Rattle.query_search.specs.declared.Voters.{Voters}
 use Rattle.query_laws.specs.Candidates.{Reading, row_at, votes_of, judged_by, candidate_in, best_in, answer_in}
 use Rattle.query_laws.proofs.Lists.{some-kept}
 use Rattle.query_laws.proofs.Gathering.{RightAll, votes-are, votes-many, gather_none}
@@ -44,15 +43,12 @@ module _ (S : Scheme) (w2 : 2 ≤ S.width) (m : Words) (l : slices_listed S.widt
   abbrev rs : List ℕ
   rs = m.references
 
-  abbrev voters : Voters
-  voters = record { set = set }
-
   -- the postings, and those that vote
   abbrev held : List (List ℕ)
   held = entries S.width (get_or m.references 2 0) m.postings
 
   abbrev es : List (List ℕ)
-  es = voting (record { set = set }) m.references (entries S.width (get_or m.references 2 0) m.postings)
+  es = voting set m.references (entries S.width (get_or m.references 2 0) m.postings)
 
   abbrev rows : List (Option Row)
   rows = map read_row (entries row_width (get_or m.references 0 0) (drop head_width m.references))

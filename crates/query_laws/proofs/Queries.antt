@@ -45,9 +45,9 @@ module _ (S : Scheme) (w2 : 2 ≤ S.width) (m : Words) (a : S.Ask) (set : ℕ) (
     none_before = passed S.width S.vote_words m (length s) hs (S.beyond a) set (sym e ∙ z)
 
     pub found-is : (R : Reading S.Vote) → ((q : Row) (vs : List S.Vote) → R.judge q vs ≡ S.judge a (hashes_of S.width hs) q vs) → (pair : Pairing)
-        → RightAll S R a pair (voting (record { set = set }) m.references (entries S.width (get_or m.references 2 0) m.postings)) 0 (entries (S.width - 1) (length (hashes_of S.width hs)) hs)
+        → RightAll S R a pair (voting set m.references (entries S.width (get_or m.references 2 0) m.postings)) 0 (entries (S.width - 1) (length (hashes_of S.width hs)) hs)
         → (x : Answer)
-        → x ≡ answer_in R (length s / S.vote_words) m.references (words_from pair 0 (voting (record { set = set }) m.references (entries S.width (get_or m.references 2 0) m.postings)) (entries (S.width - 1) (length (hashes_of S.width hs)) hs))
+        → x ≡ answer_in R (length s / S.vote_words) m.references (words_from pair 0 (voting set m.references (entries S.width (get_or m.references 2 0) m.postings)) (entries (S.width - 1) (length (hashes_of S.width hs)) hs))
         → (x, m) ≡ run
     found-is R judges pair H x ex =
         ap (λ (y : Answer). (y, m)) (ex ∙ answer-is S w2 m none_before.is-listed none_before.is-sound a set hs (length s) R judges pair H)

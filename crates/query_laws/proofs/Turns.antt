@@ -15,7 +15,7 @@ use Rattle.maps.proofs.Entries.{scale-le}
 use Rattle.bins.specs.Votes.{Run}
 use Rattle.matching.specs.declared.MatchResult.{MatchResult}
 use Rattle.model.specs.Query.{track_best}
-use Rattle.query_rank.specs.declared.Verdict.{Verdict}
+use Rattle.std.specs.Prelude as code
 use Rattle.query_rank.specs.Verdicts.{verdict_of, result_in}
 use Rattle.query_laws.specs.Candidates.{Reading, row_at, judged_by, candidate_in, best_in, recording_at, Rising, Votes}
 use Rattle.query_laws.proofs.Ranks.{best_none, best-more}
@@ -151,7 +151,7 @@ module _ {Vote : Type 0} (R : Reading Vote) (rs : List ℕ) (P : ℤ → Type 0)
         record_same t k = ap R.recording_of (word_same s s' v same t k)
 
     -- a turn, by what the calls say
-    pub turn : (s' : List ℤ) (at to : ℕ) → v ≤ at → length s' ≡ length s → SameOutside s s' at to → (id : ℕ) (r : Verdict) (best' : Option (ℕ × MatchResult))
+    pub turn : (s' : List ℤ) (at to : ℕ) → v ≤ at → length s' ≡ length s → SameOutside s s' at to → (id : ℕ) (r : code.Option MatchResult) (best' : Option (ℕ × MatchResult))
         → id ≡ recording_at R s i → r ≡ verdict_of (R.judge (row_at rs id) own) → best' ≡ track_best best id (result_in r) → Judged s₀ s' v best' e
     turn s' at to behind len S id r best' e1 e2 e3 =
         let m : best' ≡ track_best best x (R.judge (row_at rs x) own) = e3 ∙ rw (e2, result-of (R.judge (row_at rs id) own), e1) refl in
