@@ -6,12 +6,11 @@ use mathlib.Core.List.{map-append}
 use Rattle.lists.specs.Lists.{sum}
 use Rattle.lists.specs.Entries.{key_at, keys_ascend}
 use Rattle.lists.proofs.Tests.{test}
-use Rattle.lists.proofs.Entries.{stride}
 use Rattle.maps.specs.Sums.{when}
 use Rattle.maps.specs.Entries.{first_at}
 use Rattle.maps.proofs.Entries.{first-splits, first-after, first-upto}
 use Rattle.query_search.specs.Starts.{pivots_below, Window, Placed, Windows, Sought}
-use Rattle.query_search.proofs.Steps.{few-entries, few_words}
+use Rattle.query_search.proofs.Steps.{few_words}
 
 -- ---- the first i elements are those of f, and the others as they were
 pub record Filled (f : ℕ → ℕ) (s₀ s : List ℕ) (i : ℕ) : Type 0 where
@@ -152,11 +151,8 @@ windows-spread ps w p hs h m step len size q1 q2 q3 q4 q5 q6 q7 keys starts S so
         b ∙ ap (λ (k : ℕ). pivots_below (q1 ∷ q2 ∷ q3 ∷ q4 ∷ q5 ∷ q6 ∷ q7 ∷ []) k * size) a
         ∙ ap (λ (r : List ℕ). pivots_below r (key_at hs h i) * size) same ∙ ap (λ (z : ℕ). pivots_below stated (key_at hs h i) * z) es
 
--- ---- what is read is there, and numbers stay small
+-- ---- numbers stay small
 module _ (ps : List ℕ) (w p : ℕ) (hs : List ℕ) (h m : ℕ) (S : Sought ps w p hs h m) where
-  pub pivot-there : (n : ℕ) → 1 ≤ n → n ≤ p → (1 ≤ n) × (n < 2 ^ 32) × (w * (n - 1) < length ps)
-  pivot-there n some l = (some, omega (arith, few-entries ps w p hs h m S), omega (arith, S.posting, stride w (n - 1) p (length ps) (omega arith) S.postings))
-
   pub sevenfold-few : (step : ℕ) → 7 * step ≤ p → 7 * (w * step) < 2 ^ 32
   sevenfold-few step l =
       let e : w * (7 * step) ≡ 7 * (w * step) = sym (mul_assoc w 7 step) ∙ ap (λ (n : ℕ). n * step) (mul_comm w 7) ∙ mul_assoc 7 w step in

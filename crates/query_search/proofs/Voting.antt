@@ -43,16 +43,6 @@ module _ (v : ℕ) (rs : List ℕ) where
       let ih = words-voting f es in
       test (may_vote v rs (get_or e 1 0)) (λ y. rw (y, ih)) (λ n. rw (n, ih))
 
-  -- those of one posting, by its id
-  module _ (f : List ℕ → List ℤ) (w j : ℕ) (part : List ℕ) (w1 : 1 < w) where
-    pub if_yes : may_vote v rs (get_or part (w * j + 1) 0) ≡ true → if_voting v rs f (entry_at w j part) ≡ f (entry_at w j part)
-    unfolding if_voting
-    if_yes y = rw (entry-word w j part 1 w1, y) refl
-
-    pub if_no : may_vote v rs (get_or part (w * j + 1) 0) ≡ false → if_voting v rs f (entry_at w j part) ≡ []
-    unfolding if_voting
-    if_no n = rw (entry-word w j part 1 w1, n) refl
-
   -- ---- how many of the first entries vote
 
   module _ (w : ℕ) (s : List ℕ) where
@@ -82,15 +72,6 @@ module _ (v : ℕ) (rs : List ℕ) where
         let c = ap length b ∙ length-append (voting v rs (entries w d s)) (voting v rs (entries w (n - d) (drop (w * d) s))) in
         let f = rw e at a in
         omega (arith, f, c)
-
--- a test, by its number
-pub when-yes : (b : Bool) (r : ℕ) → r ≡ when b 1 → 0 < r → b ≡ true
-when-yes true r e h = refl
-when-yes false r e h = absurd (omega arith)
-
-pub when-no : (b : Bool) (r : ℕ) → r ≡ when b 1 → r ≤ 0 → b ≡ false
-when-no true r e h = absurd (omega arith)
-when-no false r e h = refl
 
 -- n where a test passes, as a product
 pub times-when : (b : Bool) (n : ℕ) → n * when b 1 ≡ when b n

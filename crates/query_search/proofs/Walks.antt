@@ -54,16 +54,6 @@ module _ (f : List ℕ → List ℤ) (w : ℕ) (part : List ℕ) where
       let b = rw e at a in
       rw (b, length-append (given j) (words_by f (entries w (n - j) (drop (w * j) part)))) (omega arith)
 
-  -- written behind the words l
-  pub put-none : (l : List ℤ) → l ≡ l ++ given 0
-  put-none l = rw given-none (sym (append-nil l))
-
-  pub put-more : (l m x : List ℤ) (j : ℕ) → m ≡ l ++ given j → x ≡ m ++ f (entry_at w j part) → x ≡ l ++ given (j + 1)
-  put-more l m x j e k =
-      k ∙ ap (λ (y : List ℤ). y ++ f (entry_at w j part)) e
-      ∙ append_assoc l (given j) (f (entry_at w j part))
-      ∙ ap (λ (y : List ℤ). l ++ y) (sym (given-more j))
-
 module _ (pair : Pairing) (es : List (List ℕ)) where
   words_snoc : (q : ℕ) (hs : List (List ℕ)) (h : List ℕ) → words_from pair q es (hs ++ h ∷ []) ≡ words_from pair q es hs ++ words_of pair (q + length hs) es h
   unfolding words_from
