@@ -16,7 +16,6 @@ use Rattle.model.specs.Words.{Words}
 use Rattle.model.specs.Run.{run_query}
 use Rattle.query_refusals.specs.Early.{early_refusal}
 use Rattle.query_refusals.proofs.Early.{Passed}
-use Rattle.query_search.specs.declared.Voters.{Voters}
 use Rattle.query_laws.proofs.Gathering.{RightAll, right-all, all-voting}
 use Rattle.query_laws.proofs.Sound as sound
 use Rattle.query_laws.proofs.Queries as queries
@@ -35,9 +34,6 @@ query-parts a hs top e = λ i. record { cfg = a.cfg; frames_per_sec = a.rate; q_
 module _ (m : Words) (a : Ask) (set : ℕ) (hs : List ℕ) (s : List ℤ) (r : ℕ) (e : r ≡ early_refusal 3 6 m (length s) hs (beyond a.cfg) set) where
   abbrev run : Answer × Words
   run = run_query wang m (query_with a.cfg a.rate set hs (length s))
-
-  abbrev voters : Voters
-  voters = record { set = set }
 
   -- none of refusals 1 to 4 and 9
   module _ (z : r ≡ 0) (hash-bits : (i : ℕ) → get_or hs i 0 < 2 ^ 32) where
@@ -81,13 +77,13 @@ module _ (m : Words) (a : Ask) (set : ℕ) (hs : List ℕ) (s : List ℤ) (r : �
     judge-is x vs = refl
 
     pub found-is : ((i : ℕ) → get_or m.postings i 0 < 2 ^ 32) → (x : Answer)
-        → x ≡ answer_in voters (query_of a (hashes_of 3 hs)) (length s / 6) m.references m.postings hs
+        → x ≡ answer_in set (query_of a (hashes_of 3 hs)) (length s / 6) m.references m.postings hs
         → (x, m) ≡ run
     found-is post-bits x ex =
         queries.found-is wang (omega arith) m a set hs s r e z (reading (query_of a (hashes_of 3 hs))) judge-is (pair_word (largest_anchor (hashes_of 3 hs))) rights x ex
       where
-        rights : RightAll wang (reading (query_of a (hashes_of 3 hs))) a (pair_word (largest_anchor (hashes_of 3 hs))) (postings_in voters m.references m.postings) 0 (hashes_in (query_of a (hashes_of 3 hs)) hs)
+        rights : RightAll wang (reading (query_of a (hashes_of 3 hs))) a (pair_word (largest_anchor (hashes_of 3 hs))) (postings_in set m.references m.postings) 0 (hashes_in (query_of a (hashes_of 3 hs)) hs)
         rights = right-all wang (reading (query_of a (hashes_of 3 hs))) a (pair_word (largest_anchor (hashes_of 3 hs))) (2 ^ 11) (Low (largest_anchor (hashes_of 3 hs))) Small
             (right a (query_of a (hashes_of 3 hs)) searchable.packable.high)
-            (postings_in voters m.references m.postings) (all-voting Small voters m.references (held_in m.references m.postings) (small-postings (get_or m.references 2 0) m.postings post-bits))
+            (postings_in set m.references m.postings) (all-voting Small set m.references (held_in m.references m.postings) (small-postings (get_or m.references 2 0) m.postings post-bits))
             (hashes_in (query_of a (hashes_of 3 hs)) hs) (low-hashes (length (hashes_of 3 hs)) hs (largest_anchor (hashes_of 3 hs)) searchable.packable.below) 0 (omega (arith, length-entries 2 (length (hashes_of 3 hs)) hs, searchable.packable.walk.few))

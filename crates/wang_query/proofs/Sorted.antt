@@ -10,7 +10,6 @@ use Rattle.lists.proofs.Keep.{all_both}
 use Rattle.lists.proofs.Entries.{length-entries}
 use Rattle.sorting.specs.Sort.{sort_z}
 use Rattle.query_search.specs.Starts.{met}
-use Rattle.query_search.specs.declared.Voters.{Voters}
 use Rattle.query_laws.proofs.Gathering.{words-all, all-voting}
 use Rattle.query_laws.proofs.Sorted as sorting
 use Rattle.wang_judge.specs.declared.WangQuery.{WangQuery}
@@ -20,10 +19,10 @@ use Rattle.wang_query.specs.Candidates.{held_in, postings_in, hashes_in, words_i
 use Rattle.wang_query.proofs.Pairs.{Low, Small, low-hashes, small-postings, recording-is, place_is}
 
 -- how many are gathered
-pub gathered-many : (v : Voters) (q : WangQuery) (rs ps hs : List ℕ) → met (postings_in v rs ps) (hashes_in q hs) ≡ length (words_in v q rs ps hs)
+pub gathered-many : (v : ℕ) (q : WangQuery) (rs ps hs : List ℕ) → met (postings_in v rs ps) (hashes_in q hs) ≡ length (words_in v q rs ps hs)
 gathered-many v q rs ps hs = sym (votes-many q.q_max 0 (postings_in v rs ps) (hashes_in q hs))
 
-pub counted-all : (w : Voters) (q : WangQuery) (rs ps hs : List ℕ) (room v : ℕ) → v ≡ min (room + 1) (met (postings_in w rs ps) (hashes_in q hs)) → v ≡ min (room + 1) (length (words_in w q rs ps hs))
+pub counted-all : (w : ℕ) (q : WangQuery) (rs ps hs : List ℕ) (room v : ℕ) → v ≡ min (room + 1) (met (postings_in w rs ps) (hashes_in q hs)) → v ≡ min (room + 1) (length (words_in w q rs ps hs))
 counted-all w q rs ps hs room v e = rw (gathered-many w q rs ps hs) at e
 
 -- a vote lies in its recording's span
@@ -32,7 +31,7 @@ spanned-one rs top high i h e k low held small =
     let r = recording-is top high i h e k low small in
     record { known = rw r held.0; near = rw (place_is top high i h e k low small, r) (omega (arith, held.1)) }
 
-module _ (w : Voters) (rs ps hs : List ℕ) (q : WangQuery) (P : Posted rs ps hs q) (bits : (i : ℕ) → get_or ps i 0 < 2 ^ 32) where
+module _ (w : ℕ) (rs ps hs : List ℕ) (q : WangQuery) (P : Posted rs ps hs q) (bits : (i : ℕ) → get_or ps i 0 < 2 ^ 32) where
   spanned : All (Spanned rs q.q_max) (words_in w q rs ps hs)
   spanned = words-all (pair_word q.q_max) (Spanned rs q.q_max) (2 ^ 11) (Low q.q_max) (λ e. Held rs e × Small e)
       (λ i h e k L E. (spanned-one rs q.q_max P.packable.high i h e k L E.0 E.1, tt))

@@ -14,7 +14,7 @@ use Rattle.model.specs.Query.{track_best}
 use Rattle.model.specs.Soundness.{row_word}
 use Rattle.model.specs.Words.{at_rate, at_rmax}
 use Rattle.wang_judge.specs.declared.WangQuery.{WangQuery}
-use Rattle.query_rank.specs.declared.Verdict.{Verdict}
+use Rattle.std.specs.Prelude as code
 use Rattle.wang_judge.specs.Judge.{judge_by}
 use Rattle.query_rank.specs.Verdicts.{verdict_of, result_in}
 use Rattle.wang_judge.specs.Candidates.{counts_in, Candidate}
@@ -60,7 +60,7 @@ module _ (rs : List ℕ) (q : WangQuery) (s₀ s : List ℤ) (v : ℕ) (best : O
   }
 
   -- a turn, by what the calls say
-  pub walked_on : (s' : List ℤ) (to : ℕ) → length s' ≡ length s → SameOutside s s' (2 * v) to → (id rate rmax : ℕ) (r : Verdict) (best' : Option (ℕ × MatchResult))
+  pub walked_on : (s' : List ℤ) (to : ℕ) → length s' ≡ length s → SameOutside s s' (2 * v) to → (id rate rmax : ℕ) (r : code.Option MatchResult) (best' : Option (ℕ × MatchResult))
       → id ≡ recording_of (get_or s i (pos 0)) → rate ≡ row_word rs id at_rate → rmax ≡ row_word rs id at_rmax
       → r ≡ verdict_of (judge_by q rate rmax (counts_in q.q_max s i (e - i))) → best' ≡ track_best best id (result_in r) → Walked rs q s₀ s' v best' e
   unfolding counts_in

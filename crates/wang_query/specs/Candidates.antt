@@ -9,7 +9,6 @@ use Rattle.model.specs.Calls.{Answer}
 use Rattle.model.specs.Soundness.{row_word}
 use Rattle.model.specs.Words.{head_width, row_width, at_rmax}
 use Rattle.query_search.specs.Voting.{voting}
-use Rattle.query_search.specs.declared.Voters.{Voters}
 use Rattle.query_laws.specs.Candidates as of-reading
 use Rattle.wang_judge.specs.declared.WangQuery.{WangQuery}
 use Rattle.wang_judge.specs.Judge.{Vote, judge_by}
@@ -29,17 +28,17 @@ best_in q rs zs = of-reading.best_in (reading q) rs zs
 abbrev pub held_in : List ℕ → List ℕ → List (List ℕ)
 held_in rs ps = entries 3 (get_or rs 2 0) ps
 
-abbrev pub postings_in : Voters → List ℕ → List ℕ → List (List ℕ)
+abbrev pub postings_in : ℕ → List ℕ → List ℕ → List (List ℕ)
 postings_in v rs ps = voting v rs (held_in rs ps)
 
 abbrev pub hashes_in : WangQuery → List ℕ → List (List ℕ)
 hashes_in q hs = entries 2 q.q_len hs
 
-abbrev pub words_in : Voters → WangQuery → List ℕ → List ℕ → List ℕ → List ℤ
+abbrev pub words_in : ℕ → WangQuery → List ℕ → List ℕ → List ℕ → List ℤ
 words_in v q rs ps hs = words q.q_max (postings_in v rs ps) (hashes_in q hs)
 
 -- the answer, where the scratch has room for so many votes
-abbrev pub answer_in : Voters → WangQuery → ℕ → List ℕ → List ℕ → List ℕ → Answer
+abbrev pub answer_in : ℕ → WangQuery → ℕ → List ℕ → List ℕ → List ℕ → Answer
 answer_in v q room rs ps hs = of-reading.answer_in (reading q) room rs (words_in v q rs ps hs)
 
 -- ---- what the code asks

@@ -1,2 +1,3 @@
--- A Wang query's candidates from the words of its votes.
+-- The candidates of a Wang query, and what its postings and hashes are asked.
 pub mod Candidates
+pub mod Props
