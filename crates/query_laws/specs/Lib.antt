@@ -1,2 +1,3 @@
--- The candidates of a query, from the words of its votes.
+-- The candidates of a query; facts of every element.
 pub mod Candidates
+pub mod Props

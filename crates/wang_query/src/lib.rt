@@ -1,16 +1,19 @@
 // The query of WangIndex: votes are counted against the scratch, gathered, sorted, and judged candidate by candidate.
 #![tactic(auto)]
 
-ghost use Rattle.std.specs.Prelude.{◌≡◌, ℕ, ◌*◌, ◌/◌, ◌^◌, ◌≤◌, ◌<◌, length, get_or, take};
+ghost use Rattle.std.specs.Prelude.{◌≡◌, ◌*◌, ◌/◌, ◌≤◌, length, take};
 ghost use Rattle.model.specs.Fingerprints.{hashes_of};
 ghost use Rattle.model.specs.Run.{run_query};
 ghost use Rattle.soundness.specs.Scan.{lent};
 ghost use Rattle.query_search.specs.Starts.{Starts, Ends, Zeros};
 ghost use Rattle.query_rank.specs.Answers.{best_so_far, finding_answer, scratch_after};
 ghost use Rattle.wang_judge.specs.Scheme.{query_of, wang, query_with};
-ghost use Rattle.wang_query.specs.Candidates.{best_in, words_in, answer_in, Votes, Posted};
-ghost use Rattle.wang_query.specs.Props.{posted_prop};
+ghost use Rattle.wang_query.specs.Candidates.{best_in, Votes};
+ghost use Rattle.wang_query.specs.Asked.{words_of, answer_to};
 
+mod asked;
+
+use asked::Asked;
 use query_rank::Found;
 use query_search::{Search, Voters};
 use refusals::Refusal;
@@ -37,39 +40,39 @@ fn best_of(s: &mut [i64], v: usize, refs: &[u32], q: WangQuery) -> Option<Found>
     best
 }
 
-// A query that no refusal before 8 applies to: where its hashes are searched, whose postings vote, and what every candidate is judged with.
-#[derive(Clone, Copy)]
-struct Asked<'a> {
-    search: Search<'a, 3, 2>,
-    voters: Voters<'a>,
-    q: WangQuery,
-    ghost posted: { Posted voters.refs.now search.posts.now search.hashes.now q } by { posted_prop _ _ _ _ },
-    ghost all_postings: { search.count ≡ get_or voters.refs.now 2 0 },
-    ghost words: { (i : ℕ) → get_or search.posts.now i 0 < 2 ^ 32 },
-    ghost all_hashes: { search.hash_count ≡ q.q_len },
-}
-
 impl<'a> Asked<'a> {
     // The best candidate by the votes, which are gathered and sorted in the scratch. `starts` says where the postings of each hash begin, and `ends`
     // where they end.
     fn best_candidate(self, s: &mut [i64], starts: &[u32], ends: &[u32]) -> Option<Found>
-        requires { (length (words_in self.voters.set self.q self.voters.refs.now self.search.posts.now self.search.hashes.now) ≤ 1000000)
-            × (4 * length (words_in self.voters.set self.q self.voters.refs.now self.search.posts.now self.search.hashes.now) ≤ length s.old)
+        requires { (length (words_of self) ≤ 1000000)
+            × (4 * length (words_of self) ≤ length s.old)
             × Starts self.search.posts.now 3 self.search.count self.search.hashes.now 2 self.search.hash_count starts.now
             × Ends self.search.posts.now 3 self.search.count self.search.hashes.now 2 self.search.hash_count ends.now
             × (self.search.hash_count ≤ length starts.now) × (self.search.hash_count ≤ length ends.now) }
-        ensures { best_so_far result ≡ best_in self.entry.q self.entry.voters.refs.now (words_in self.entry.voters.set self.entry.q self.entry.voters.refs.now self.entry.search.posts.now self.entry.search.hashes.now) }
+        ensures { best_so_far result ≡ best_in self.entry.q self.entry.voters.refs.now (words_of self.entry) }
     {
-        let v = wang_votes::gather(s, self.search, self.voters, starts, ends, u64::from(self.q.q_max));
+        let v = wang_votes::gather(
+            s,
+            self.search,
+            self.voters,
+            starts,
+            ends,
+            u64::from(self.q.q_max),
+        );
         sorting::sort_words(s, v);
         best_of(s, v, self.voters.refs, self.q)
     }
 
     // The answer. An accepted query leaves zeros in the scratch. Where the postings of each hash begin and end goes to `starts` and `ends`.
-    fn search_in(self, s: &mut [i64], starts: &mut [u32], ends: &mut [u32]) -> Result<Option<Found>, Refusal>
+    fn search_in(
+        self,
+        s: &mut [i64],
+        starts: &mut [u32],
+        ends: &mut [u32],
+    ) -> Result<Option<Found>, Refusal>
         requires { (length s.old / 6 ≤ 1000000) × Zeros self.search.hash_count starts.old × (self.search.hash_count ≤ length ends.old) }
-        ensures { (finding_answer result ≡ answer_in self.entry.voters.set self.entry.q (length s.old / 6) self.entry.voters.refs.now self.entry.search.posts.now self.entry.search.hashes.now)
-            × (s.new ≡ scratch_after (answer_in self.entry.voters.set self.entry.q (length s.old / 6) self.entry.voters.refs.now self.entry.search.posts.now self.entry.search.hashes.now) s.old) }
+        ensures { (finding_answer result ≡ answer_to self.entry (length s.old / 6))
+            × (s.new ≡ scratch_after (answer_to self.entry (length s.old / 6)) s.old) }
     {
         let room = s.len() / 6;
         self.search.seek(starts);
@@ -85,8 +88,8 @@ impl<'a> Asked<'a> {
     // The same, with arrays of its own for up to N hashes.
     fn search_sized<const N: usize>(self, s: &mut [i64]) -> Result<Option<Found>, Refusal>
         requires { (length s.old / 6 ≤ 1000000) × (self.search.hash_count ≤ N) × (N ≤ 2048) }
-        ensures result_value { finding_answer result ≡ answer_in self.entry.voters.set self.entry.q (length s.old / 6) self.entry.voters.refs.now self.entry.search.posts.now self.entry.search.hashes.now }
-        ensures s_after { s.new ≡ scratch_after (answer_in self.entry.voters.set self.entry.q (length s.old / 6) self.entry.voters.refs.now self.entry.search.posts.now self.entry.search.hashes.now) s.old }
+        ensures result_value { finding_answer result ≡ answer_to self.entry (length s.old / 6) }
+        ensures s_after { s.new ≡ scratch_after (answer_to self.entry (length s.old / 6)) s.old }
     {
         let mut starts = [0u32; N];
         let mut ends = [0u32; N];
@@ -96,8 +99,8 @@ impl<'a> Asked<'a> {
     // The same, for any number of hashes.
     fn search(self, s: &mut [i64]) -> Result<Option<Found>, Refusal>
         requires { length s.old / 6 ≤ 1000000 }
-        ensures result_value { finding_answer result ≡ answer_in self.entry.voters.set self.entry.q (length s.old / 6) self.entry.voters.refs.now self.entry.search.posts.now self.entry.search.hashes.now }
-        ensures s_after { s.new ≡ scratch_after (answer_in self.entry.voters.set self.entry.q (length s.old / 6) self.entry.voters.refs.now self.entry.search.posts.now self.entry.search.hashes.now) s.old }
+        ensures result_value { finding_answer result ≡ answer_to self.entry (length s.old / 6) }
+        ensures s_after { s.new ≡ scratch_after (answer_to self.entry (length s.old / 6)) s.old }
     {
         if self.search.hash_count <= FEW {
             return self.search_sized::<FEW>(s);

@@ -1,12 +1,10 @@
 -- `wang_query::best_of` meets its contract: at the loop's test the candidates with votes before word i have been judged. Assumes nothing.
 use mathlib.Core.Path.{◌≡◌}
-use Prim.Native.Nat.{◌-◌}
 use native.Mathlib.Omega.{arith}
 use Rattle.query_rank.specs.Answers.{best_so_far}
 use Rattle.query_laws.proofs.Turns.{judged-none, judged-all}
 use Rattle.wang_query.specs.Candidates.{reading, Spanned}
-use Rattle.wang_query.proofs.Turns.{Walked, candidate, walked_on}
-use borrow.Author.Rules.{rules}
+use Rattle.wang_query.proofs.Turns.{candidate, walked_on}
 use Rattle.wang_query.proofs.best_of.Goals as goal
 
 pub loop-i-init : goal.loop-i-init

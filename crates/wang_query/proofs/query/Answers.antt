@@ -1,17 +1,11 @@
 -- An early refusal, or the answer of the search.
-use Rattle.std.proofs.Common.{◌≡◌, ℕ, ◌+◌, ◌^◌, ◌≤◌, ◌<◌, List, ℤ, length, get_or, arith, refl, sym, ap, ◌∙◌}
+use Rattle.std.proofs.Common.{arith, refl}
 use Rattle.std.proofs.lemmas.Result.{err_from_is_err_and}
-use Rattle.model.specs.Words.{Words}
 use Rattle.soundness.specs.Scan.{words}
 use Rattle.soundness.proofs.Refusal.{numbered}
-use Rattle.refusals.specs.Numbers.{number_of}
 use Rattle.query_rank.specs.Answers.{finding_answer}
-use Rattle.query_refusals.specs.Early.{early_refusal}
 use Rattle.query_laws.proofs.Queries.{refused-is}
-use Rattle.wang_judge.specs.declared.WangMatchConfig.{WangMatchConfig}
-use Rattle.wang_judge.specs.declared.WangQuery.{WangQuery}
-use Rattle.wang_judge.specs.Scheme.{Ask, beyond, query_of, wang}
-use Rattle.wang_query.specs.Candidates.{Posted}
+use Rattle.wang_judge.specs.Scheme.{beyond, wang}
 use Rattle.wang_query.proofs.Queries.{searchable, few-votes, found-is}
 use Rattle.wang_query.proofs.query.Goals as goal
 

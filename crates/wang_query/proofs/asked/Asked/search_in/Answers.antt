@@ -3,13 +3,13 @@ use Rattle.std.proofs.Common.{◌≡◌, List, ℕ, ◌+◌, ◌/◌, min, lengt
 use Rattle.lists.specs.Entries.{entries}
 use Rattle.query_search.specs.Starts.{met}
 use Rattle.query_search.specs.Voting.{voting}
-use Rattle.query_rank.specs.Answers.{best_so_far, finding_answer}
+use Rattle.query_rank.specs.Answers.{best_so_far}
 use Rattle.query_rank.proofs.Answers as rank
 use Rattle.query_laws.proofs.Answers.{too_many, all_fit, answered}
 use Rattle.wang_judge.specs.declared.WangQuery.{WangQuery}
 use Rattle.wang_query.specs.Candidates.{reading, words_in}
 use Rattle.wang_query.proofs.Sorted.{counted-all}
-use Rattle.wang_query.proofs.Asked.search_in.Goals as goal
+use Rattle.wang_query.proofs.asked.Asked.search_in.Goals as goal
 
 counted : (p m room v set : ℕ) (q : WangQuery) (rs ps hs : List ℕ) → p ≡ get_or rs 2 0 → m ≡ q.q_len
     → v ≡ min (room + 1) (met (voting set rs (entries 3 p ps)) (entries 2 m hs)) → v ≡ min (room + 1) (length (words_in set q rs ps hs))

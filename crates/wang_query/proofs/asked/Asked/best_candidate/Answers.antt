@@ -1,5 +1,5 @@
 -- Sorting changes the order of the votes alone.
-use Rattle.std.proofs.Common.{◌≡◌, List, ℕ, ℤ, ◌≤◌, length, get_or, arith, ap, ◌∙◌}
+use Rattle.std.proofs.Common.{◌≡◌, List, ℕ, ℤ, length, get_or, arith, ap, ◌∙◌}
 use Rattle.lists.specs.Entries.{entries}
 use Rattle.query_search.specs.Starts.{met}
 use Rattle.query_search.specs.Voting.{voting}
@@ -10,7 +10,7 @@ use Rattle.query_laws.proofs.Sorted.{sorted-best}
 use Rattle.wang_query.specs.Candidates.{reading, words_in}
 use Rattle.wang_query.proofs.Sorted.{gathered-many, sorted-votes}
 use Rattle.wang_query.proofs.Turns.{fair}
-use Rattle.wang_query.proofs.Asked.best_candidate.Goals as goal
+use Rattle.wang_query.proofs.asked.Asked.best_candidate.Goals as goal
 
 -- what the gathering promised, of all postings and all hashes
 many : (p m v : ℕ) (set : ℕ) (q : WangQuery) (rs ps hs : List ℕ) → p ≡ get_or rs 2 0 → m ≡ q.q_len
