@@ -16,8 +16,9 @@ use Rattle.bins.specs.Codes.{code_in, codes_in, occupied, bins_of, stored}
 use Rattle.bins.proofs.Stored.{stored-length, stored-before, stored-outside, stored-read}
 use Rattle.bins.proofs.Occupied.{occupied-few, occupied-some, bins-length}
 use Rattle.bins.proofs.Binning.{codes-length, codes-each}
-use Rattle.few_bins.specs.Tally.{is_few, counted}
+use Rattle.few_bins.specs.Tally.{is_few, few_of}
 use Rattle.hough.specs.Limits.{Bins}
+use Rattle.std.specs.Prelude as code
 use Rattle.std.specs.Prelude.{Option}
 use Rattle.matching.specs.declared.MatchResult.{MatchResult}
 use Rattle.gates.proofs.Passing.{Weighed}
@@ -96,15 +97,15 @@ module _ (s : List ℤ) (a g : ℕ) (fits : a + g ≤ length s) where
         )
 
 -- what `count_few` says of the first g votes, whether it counted them or not
-module _ (s l : List ℤ) (g at n : ℕ) (before : g ≤ at) (room : at + 4 * g ≤ length s) (told : n ≡ counted (length (occupied (codes_in panako_form s 0 g))))
+module _ (s l : List ℤ) (g at : ℕ) (r : code.Option ℕ) (before : g ≤ at) (room : at + 4 * g ≤ length s) (told : r ≡ few_of (length (occupied (codes_in panako_form s 0 g))))
     (left : l ≡ cond (is_few (length (occupied (codes_in panako_form s 0 g)))) (stored s at (bins_of panako_form middle (codes_in panako_form s 0 g))) s) where
-  binned : is_few (length (occupied (codes_in panako_form s 0 g))) ≡ true → (take g l ≡ take g s) × Binned l g at n
-  binned t = few-binned s 0 g (omega arith) at n l room (rw t at told) (rw t at left) refl before
+  binned : is_few (length (occupied (codes_in panako_form s 0 g))) ≡ true → (take g l ≡ take g s) × Binned l g at (length (occupied (codes_in panako_form s 0 g)))
+  binned t = few-binned s 0 g (omega arith) at (length (occupied (codes_in panako_form s 0 g))) l room refl (rw t at left) refl before
 
-  pub few-number : n ≡ counted (bin_count (votes_in s 0 g))
-  few-number = told ∙ ap counted (sym (count-by-codes s 0 g (omega arith)))
+  pub few-number : r ≡ few_of (bin_count (votes_in s 0 g))
+  few-number = told ∙ ap few_of (sym (count-by-codes s 0 g (omega arith)))
 
-  pub few-counted : (0 < n → Binned l g at n) × (take g l ≡ take g s)
+  pub few-counted : code.IfSome r (λ n. Binned l g at n) × (take g l ≡ take g s)
   few-counted = test (is_few (length (occupied (codes_in panako_form s 0 g))))
-      (λ t. (λ h. (binned t).1, (binned t).0))
-      (λ f. let z : n ≡ 0 = told ∙ rw f refl in let e : l ≡ s = rw f at left in (λ h. absurd (omega arith), ap (take g) e))
+      (λ t. let e : r ≡ code.Some (length (occupied (codes_in panako_form s 0 g))) = told ∙ rw t refl in (rw e (binned t).1, (binned t).0))
+      (λ f. let z : r ≡ code.None = told ∙ rw f refl in let e : l ≡ s = rw f at left in (rw z tt, ap (take g) e))

@@ -2,11 +2,11 @@
 // `PanakoIndex::query` of the reference.
 #![tactic(auto)]
 
-ghost use Rattle.std.specs.Prelude.{◌≡◌, ◌+◌, ◌*◌, ◌≤◌, ◌<◌, ◌^◌, length, take};
+ghost use Rattle.std.specs.Prelude.{IfSome, ◌≡◌, ◌+◌, ◌*◌, ◌≤◌, ◌<◌, ◌^◌, length, take};
 ghost use Rattle.maps.specs.Words.{SameOutside};
 ghost use Rattle.query_rank.specs.Verdicts.{verdict_of};
 ghost use Rattle.gates.specs.Gates.{peak_gates, result_at, passing};
-ghost use Rattle.few_bins.specs.Tally.{counted};
+ghost use Rattle.few_bins.specs.Tally.{few_of};
 ghost use Rattle.hough.specs.Hough.{scale, peak_offset};
 ghost use Rattle.hough.specs.Limits.{Bins, Roomy, Summed};
 ghost use Rattle.panako_judge.specs.Judge.{bin_count, seen_of, thresholds_of, at_peak, time_scale_of, result_of, judge_by};
@@ -127,11 +127,11 @@ pub fn judge(
 // ---- a candidate with few bins
 
 // The bins of the first g votes, where they are few, are written from word `at` on: no order is asked of the votes. Yields how many bins there are,
-// or 0 where they are more.
-pub fn count_few(s: &mut [i64], g: usize, at: usize) -> usize
+// none where they are more.
+pub fn count_few(s: &mut [i64], g: usize, at: usize) -> Option<usize>
     requires { (g ≤ at) × (at + 4 * g ≤ length s.old) × (g ≤ 1000000) }
-    ensures value { result ≡ counted (bin_count (votes_in s.old 0 g)) }
-    ensures binned { 0 < result → Binned s.new g at result }
+    ensures value { result ≡ few_of (bin_count (votes_in s.old 0 g)) }
+    ensures binned { IfSome result (λ n. Binned s.new g at n) }
     ensures s_unchanged { take g s.new ≡ take g s.old }
 {
     few_bins::count_few(s, 0, g, at, FORM, MIDDLE as u64)

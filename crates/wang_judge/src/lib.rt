@@ -92,14 +92,14 @@ fn above_low(c: i64, q_max: u32) -> u64
     (c + i64::from(q_max)).unsigned_abs()
 }
 
-// The score at a centre, from the g votes from word a on.
-fn score_at(s: &[i64], a: usize, g: usize, q: WangQuery, centre: i64) -> f32
-    requires { (a + g ≤ length s.now) × (q.cfg.offset_tolerance_frames ≤ 65535) × (q.q_len ≤ 2048)
+// The score at a centre.
+fn score_at(votes: &[i64], q: WangQuery, centre: i64) -> f32
+    requires { (q.cfg.offset_tolerance_frames ≤ 65535) × (q.q_len ≤ 2048)
         × T (non_neg (centre +ℤ pos q.q_max)) × (nat_abs (centre +ℤ pos q.q_max) ≤ 2 ^ 40) }
-    ensures { result ≡ score_of (distinct (counts_in q.q_max s.now a g) q.cfg.offset_tolerance_frames centre q.q_len) q.q_len }
+    ensures { result ≡ score_of (distinct (counts_in q.q_max votes.now 0 (length votes.now)) q.cfg.offset_tolerance_frames centre q.q_len) q.q_len }
 {
     let x = above_low(centre, q.q_max);
-    let n = bins::distinct_positions(s, a, g, q.tolerance(), x, q.q_len);
+    let n = bins::distinct_positions(votes, q.tolerance(), x, q.q_len);
     matching::score(n, q.q_len as u64)
 }
 
@@ -118,12 +118,13 @@ fn weigh(
     ensures { result ≡ verdict_of (passing (peak_gates (thresholds_of q) (at_peak (seen_in q r_max s.now a g))) (result_of fps (seen_in q r_max s.now a g))) }
 {
     let peak = peak_of(s, at, n, q.tolerance(), q.q_max, r_max);
+    let votes = &s[a..a + g];
     let width = u64::from(q.q_max) + u64::from(r_max) + 1;
     gates::weigh(
         q.thresholds(),
         peak.votes,
         move || matching::wang_prominence(peak.votes, peak.total, width),
-        move || score_at(s, a, g, q, peak.centre),
+        move || score_at(votes, q, peak.centre),
         move |p| gates::result(p, peak.mode, fps, 1.0),
     )
 }

@@ -1,5 +1,7 @@
 -- The peak is the one that is seen; what the calls yield is what is seen of it.
-use Rattle.std.proofs.Common.{◌≡◌, List, ℕ, ℤ, neg_ℤ, drop, ◌≤◌, ◌<◌, ◌^◌, ◌+◌, pos, nat_abs, ◌+ℤ◌, T, arith, rules, refl, sym, ap, ◌∙◌}
+use Rattle.std.proofs.Common.{◌≡◌, List, ℕ, ℤ, neg_ℤ, drop, ◌≤◌, ◌<◌, ◌^◌, ◌+◌, pos, nat_abs, ◌+ℤ◌, T, arith, rules, refl, sym, ap, ◌∙◌, take, length, map}
+use lib.ListN.{length-drop}
+use lib.Seq.{take-take, length-take-le}
 use Rattle.std.specs.Int.Signed.{non_neg}
 use Rattle.std.specs.Float.{binary32}
 use Rattle.std.specs.Float.Ieee.{of_bits}
@@ -12,7 +14,8 @@ use Rattle.matching.specs.Scores.{wang_prominence, score_of}
 use Rattle.gates.specs.Gates.{result_at}
 use Rattle.gates.proofs.Passing.{result-same}
 use Rattle.wang_judge.specs.Judge.{distinct, seen_of, at_peak, result_of}
-use Rattle.wang_judge.specs.Candidates.{counts_in, seen_in, Counted}
+use Rattle.wang_judge.specs.Scheme.{counts_of}
+use Rattle.wang_judge.specs.Candidates.{vote_in, counts_in, seen_in, Counted}
 use Rattle.wang_judge.proofs.Gates.{span-is, peak-found, prominence-found, peak-total, peak-few, centre-up, centre-few}
 use Rattle.wang_judge.proofs.weigh.Goals as goal
 
@@ -24,6 +27,13 @@ score-found : (q : WangQuery) (rmax : ℕ) (s : List ℤ) (a g : ℕ) (p : Peak)
     → score_of (distinct (counts_in q.q_max s a g) q.cfg.offset_tolerance_frames p.centre q.q_len) q.q_len ≡ (seen_in q rmax s a g).score
 unfolding seen_of
 score-found q rmax s a g p e = rw e refl
+
+-- the votes in a slice of their own
+counts-part : (top : ℕ) (s : List ℤ) (a g : ℕ) → a + g ≤ length s → counts_in top (take g (drop a s)) 0 (length (take g (drop a s))) ≡ counts_in top s a g
+unfolding counts_in
+counts-part top s a g h =
+    let n : length (take g (drop a s)) ≡ g = length-take-le g (drop a s) (omega (arith, length-drop a s)) in
+    rw n (ap (λ (l : List ℤ). counts_of (map (vote_in top) l)) (take-take g g (drop a s) (omega arith)))
 
 one-is : of_bits binary32 1065353216 ≡ one
 unfolding of_bits
@@ -76,8 +86,8 @@ returns c =
     let k : x ≡ wang_prominence p.votes p.total (c.from.result + c.from-2.result + 1) = search rules in
     k ∙ prominence-found q rmax s c.args.a c.args.g p c.from.result c.from-2.result found c.from.ensures c.from-2.ensures)
     (λ x h.
-    let k : x ≡ score_of (distinct (counts_in q.q_max s c.args.a c.args.g) q.cfg.offset_tolerance_frames (word p.centre) q.q_len) q.q_len = search rules in
-    rw centre at k ∙ score-found q rmax s c.args.a c.args.g p found)
+    let k : x ≡ score_of (distinct (counts_in q.q_max (take c.args.g (drop c.args.a s)) 0 (length (take c.args.g (drop c.args.a s)))) q.cfg.offset_tolerance_frames (word p.centre) q.q_len) q.q_len = search rules in
+    rw (centre, counts-part q.q_max s c.args.a c.args.g (omega (arith, c.requires.before, c.requires.room))) at k ∙ score-found q rmax s c.args.a c.args.g p found)
     (λ x h.
     let k : x ≡ result_at (at_peak (seen_in q rmax s c.args.a c.args.g)) (word p.mode) c.args.fps (of_bits binary32 1065353216) = search rules in
     k ∙ result-same _ _ _ _ c.args.fps _ one refl (mode ∙ ap (λ (x : Peak). x.mode) found) one-is)
