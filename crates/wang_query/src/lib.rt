@@ -14,11 +14,15 @@ ghost use Rattle.wang_query.specs.Asked.{words_of, answer_to};
 mod asked;
 
 use asked::Asked;
+use bins::Lead;
 use query_rank::Found;
 use query_search::{Search, Voters};
 use refusals::Refusal;
 use soundness::Store;
 use wang_judge::{WangMatchConfig, WangQuery};
+
+// A recording's id in the word of its vote.
+const LEAD: Lead = Lead { low: 0, bits: 44 };
 
 // The best candidate by the first v words, which are votes in ascending order. Bins are written from word 2 * v on.
 fn best_of(s: &mut [i64], v: usize, refs: &[u32], q: WangQuery) -> Option<Found>
@@ -29,8 +33,8 @@ fn best_of(s: &mut [i64], v: usize, refs: &[u32], q: WangQuery) -> Option<Found>
     let mut i = 0;
     // A `while`, since i goes from run to run.
     while i < v {
-        let e = bins::lead_run_end(s, i, v, 0, 44);
-        let id = bins::lead_at(s, i, 0, 44) as u32;
+        let e = LEAD.run_end(s, i, v);
+        let id = LEAD.of(s[i]) as u32;
         let rate = rows::row_word(refs, id as usize, rows::AT_RATE);
         let r_max = rows::row_word(refs, id as usize, rows::AT_RMAX);
         let verdict = wang_judge::judge(s, i, e - i, 2 * v, q, rate, r_max);
