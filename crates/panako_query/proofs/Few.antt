@@ -14,7 +14,7 @@ use Rattle.matching.specs.declared.MatchResult.{MatchResult}
 use Rattle.model.specs.Query.{track_best}
 use Rattle.model.specs.Soundness.{row_word}
 use Rattle.model.specs.Words.{at_rate}
-use Rattle.query_rank.specs.declared.Verdict.{Verdict}
+use Rattle.std.specs.Prelude as code
 use Rattle.query_rank.specs.Verdicts.{verdict_of, result_in}
 use Rattle.query_laws.proofs.Judged.{one-recording}
 use Rattle.query_laws.proofs.Turns.{result-of, word_same}
@@ -45,7 +45,7 @@ module _ (rs : List ℕ) (q : PanakoQuery) (s : List ℤ) (v n : ℕ) (A : Alike
       ap recording_of (get_or-take v s t (pos 0) lt) ∙ A.votes.one t lt)
 
   -- the best, by what the calls say
-  pub few-best : (id rate : ℕ) (r : Verdict) (best : Option (ℕ × MatchResult)) → id ≡ recording_of (get_or s 0 (pos 0)) → rate ≡ row_word rs id at_rate
+  pub few-best : (id rate : ℕ) (r : code.Option MatchResult) (best : Option (ℕ × MatchResult)) → id ≡ recording_of (get_or s 0 (pos 0)) → rate ≡ row_word rs id at_rate
       → r ≡ verdict_of (judge_by q rate (votes_in s 0 v)) → best ≡ track_best none id (result_in r) → best ≡ best_in q rs (take v s)
   few-best id rate r best e1 e2 e3 e4 =
       e4 ∙ rw (e3, result-of (judge_by q rate (votes_in s 0 v)), e2, e1) (sym (one-recording (reading q) rs (take v s) (recording_of (get_or s 0 (pos 0))) K each (omega (arith, length-take-le v s short, A.votes.some))))

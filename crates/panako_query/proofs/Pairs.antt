@@ -13,8 +13,7 @@ use Rattle.model.specs.Words.{read_posting}
 use Rattle.panako_vote.specs.Grids.{grid_of, Limited}
 use Rattle.panako_vote.specs.Votes.{vote_on, Bounded}
 use Rattle.panako_vote.specs.declared.ScaleGrid.{ScaleGrid}
-use Rattle.panako_vote.specs.declared.Vote as of_pair
-use Rattle.panako_vote.specs.declared.Vote.TheVariants.{Nothing, At}
+use Rattle.std.specs.Prelude.{Option, Some, None}
 use Rattle.panako_vote.proofs.Bounds.{vote-bounded}
 use Rattle.query_laws.proofs.Gathering.{Right}
 use Rattle.panako_judge.specs.declared.PanakoQuery.{PanakoQuery}
@@ -39,12 +38,10 @@ small-hashes m hs h = all-entries SmallHash 4 m hs (λ i lt. rw (entry-word 4 i 
 pub small-postings : (p : ℕ) (ps : List ℕ) → ((i : ℕ) → get_or ps i 0 < 2 ^ 32) → All SmallPosting (entries 5 p ps)
 small-postings p ps h = all-entries SmallPosting 5 p ps (λ i lt. rw (entry-word 5 i ps 2 (omega arith), entry-word 5 i ps 4 (omega arith)) (h (5 * i + 2), h (5 * i + 4)))
 
-back : (id last : ℕ) (v : of_pair.Vote) → last < 4096 → Bounded last v
-    → All (λ z. recording_of z ≡ id) (map (word_of id) (as_list v)) × (map vote_in (map (word_of id) (as_list v)) ≡ as_list v)
-back id last Nothing h b = (tt, refl)
-back id last (At bin offset) h b =
-    let v : Vote = record { bin = bin; offset = offset } in
-    ((packed-recording id v (omega (arith, b.0)) b.1, tt), ap (λ (u : Vote). u ∷ []) (packed-vote id v (omega (arith, b.0)) b.1))
+back : (id last : ℕ) (o : Option Vote) → last < 4096 → Bounded last o
+    → All (λ z. recording_of z ≡ id) (map (word_of id) (as_list o)) × (map vote_in (map (word_of id) (as_list o)) ≡ as_list o)
+back id last None h b = (tt, refl)
+back id last (Some v) h b = ((packed-recording id v (omega (arith, b.0)) b.1, tt), ap (λ (u : Vote). u ∷ []) (packed-vote id v (omega (arith, b.0)) b.1))
 
 module _ (g : ScaleGrid) (L : Limited g) (i : ℕ) (h e : List ℕ) (H : SmallHash h) (E : SmallPosting e) where
   both : All (λ z. recording_of z ≡ get_or e 1 0) (pair_words g i h e) × (map vote_in (pair_words g i h e) ≡ as_list (vote_on g (get_or h 1 0) (get_or h 3 0) (get_or e 2 0) (get_or e 4 0)))

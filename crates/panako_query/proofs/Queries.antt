@@ -18,7 +18,6 @@ use Rattle.panako_vote.specs.Grids.{grid_of, Limited}
 use Rattle.panako_vote.proofs.Limits.{limited}
 use Rattle.query_refusals.specs.Early.{early_refusal}
 use Rattle.query_refusals.proofs.Early.{Passed}
-use Rattle.query_search.specs.declared.Voters.{Voters}
 use Rattle.query_laws.proofs.Gathering.{RightAll, right-all, all-voting}
 use Rattle.query_laws.proofs.Sound as sound
 use Rattle.query_laws.proofs.Queries as queries
@@ -37,9 +36,6 @@ query-parts a hs c e = λ i. record { cfg = e i; frames_per_sec = a.rate; q_len 
 module _ (m : Words) (a : Ask) (set : ℕ) (hs : List ℕ) (s : List ℤ) (r : ℕ) (e : r ≡ early_refusal 5 12 m (length s) hs (beyond a) set) where
   abbrev run : Answer × Words
   run = run_query panako m (query_with a.cfg a.rate set hs (length s))
-
-  abbrev voters : Voters
-  voters = record { set = set }
 
   -- none of refusals 1 to 4 and 9
   module _ (z : r ≡ 0) where
@@ -83,13 +79,13 @@ module _ (m : Words) (a : Ask) (set : ℕ) (hs : List ℕ) (s : List ℤ) (r : �
     judge-is x vs = refl
 
     pub found-is : ((i : ℕ) → get_or hs i 0 < 2 ^ 32) → ((i : ℕ) → get_or m.postings i 0 < 2 ^ 32) → (x : Answer)
-        → x ≡ answer_in voters (query_of a (hashes_of 5 hs)) (length s / 12) m.references m.postings hs
+        → x ≡ answer_in set (query_of a (hashes_of 5 hs)) (length s / 12) m.references m.postings hs
         → (x, m) ≡ run
     found-is hash-bits post-bits x ex =
         queries.found-is panako (omega arith) m a set hs s r e z (reading (query_of a (hashes_of 5 hs))) judge-is (pair_words (grid_of (settings a))) rights x ex
       where
-        rights : RightAll panako (reading (query_of a (hashes_of 5 hs))) a (pair_words (grid_of (settings a))) (postings_in voters m.references m.postings) 0 (hashes_in (query_of a (hashes_of 5 hs)) hs)
+        rights : RightAll panako (reading (query_of a (hashes_of 5 hs))) a (pair_words (grid_of (settings a))) (postings_in set m.references m.postings) 0 (hashes_in (query_of a (hashes_of 5 hs)) hs)
         rights = right-all panako (reading (query_of a (hashes_of 5 hs))) a (pair_words (grid_of (settings a))) (0 + length (hashes_in (query_of a (hashes_of 5 hs)) hs)) SmallHash SmallPosting
             (λ i h g k H E. right a grid (query_of a (hashes_of 5 hs)) i h g H E)
-            (postings_in voters m.references m.postings) (all-voting SmallPosting voters m.references (held_in m.references m.postings) (small-postings (get_or m.references 2 0) m.postings post-bits))
+            (postings_in set m.references m.postings) (all-voting SmallPosting set m.references (held_in m.references m.postings) (small-postings (get_or m.references 2 0) m.postings post-bits))
             (hashes_in (query_of a (hashes_of 5 hs)) hs) (small-hashes (length (hashes_of 5 hs)) hs hash-bits) 0 (omega arith)

@@ -10,7 +10,6 @@ use Rattle.lists.specs.Lists.{All}
 use Rattle.lists.proofs.Keep.{all-at, all_both, all-imp}
 use Rattle.sorting.specs.Sort.{sort_z}
 use Rattle.panako_vote.specs.Grids.{grid_of}
-use Rattle.query_search.specs.declared.Voters.{Voters}
 use Rattle.query_laws.proofs.Gathering.{words-all, all-voting}
 use Rattle.query_laws.proofs.Sorted as sorting
 use Rattle.panako_judge.specs.declared.PanakoQuery.{PanakoQuery}
@@ -19,7 +18,7 @@ use Rattle.panako_votes.specs.Gathered.{pair_words}
 use Rattle.panako_query.specs.Candidates.{held_in, postings_in, hashes_in, words_in, Limits, Known, Votes, Posted}
 use Rattle.panako_query.proofs.Pairs.{SmallHash, SmallPosting, small-hashes, small-postings, own}
 
-module _ (w : Voters) (rs ps hs : List ℕ) (q : PanakoQuery) (P : Posted rs ps hs q) (post-bits : (i : ℕ) → get_or ps i 0 < 2 ^ 32) (hash-bits : (i : ℕ) → get_or hs i 0 < 2 ^ 32) where
+module _ (w : ℕ) (rs ps hs : List ℕ) (q : PanakoQuery) (P : Posted rs ps hs q) (post-bits : (i : ℕ) → get_or ps i 0 < 2 ^ 32) (hash-bits : (i : ℕ) → get_or hs i 0 < 2 ^ 32) where
   pub all_known : All (Known rs) (words_in w q rs ps hs)
   all_known = words-all (pair_words (grid_of q.cfg)) (Known rs) (0 + length (hashes_in q hs)) SmallHash (λ e. (get_or e 1 0 < get_or rs 0 0) × SmallPosting e)
       (λ i h e k H E. all-imp (λ z. recording_of z ≡ get_or e 1 0) (Known rs) (λ z m. rw m E.0) (pair_words (grid_of q.cfg) i h e) (own (grid_of q.cfg) P.packable.grid i h e H E.1))

@@ -13,7 +13,7 @@ use Rattle.matching.specs.declared.MatchResult.{MatchResult}
 use Rattle.model.specs.Query.{track_best}
 use Rattle.model.specs.Soundness.{row_word}
 use Rattle.model.specs.Words.{at_rate}
-use Rattle.query_rank.specs.declared.Verdict.{Verdict}
+use Rattle.std.specs.Prelude as code
 use Rattle.query_rank.specs.Verdicts.{verdict_of, result_in}
 use Rattle.query_laws.specs.Candidates.{Fair, Rising}
 use Rattle.query_laws.proofs.Turns.{Judged, turn}
@@ -55,7 +55,7 @@ module _ (rs : List ℕ) (q : PanakoQuery) (s₀ s : List ℤ) (v : ℕ) (best :
   }
 
   -- a turn, by what the calls say
-  pub walked_on : (s' : List ℤ) (to : ℕ) → length s' ≡ length s → SameOutside s s' (2 * v) to → (id rate : ℕ) (r : Verdict) (best' : Option (ℕ × MatchResult))
+  pub walked_on : (s' : List ℤ) (to : ℕ) → length s' ≡ length s → SameOutside s s' (2 * v) to → (id rate : ℕ) (r : code.Option MatchResult) (best' : Option (ℕ × MatchResult))
       → id ≡ recording_of (get_or s i (pos 0)) → rate ≡ row_word rs id at_rate
       → r ≡ verdict_of (judge_by q rate (votes_in s i (e - i))) → best' ≡ track_best best id (result_in r) → Walked rs q s₀ s' v best' e
   walked_on s' to len S id rate r best' e1 e2 e3 e4 =

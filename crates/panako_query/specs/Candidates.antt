@@ -8,7 +8,6 @@ use Rattle.model.specs.Words.{head_width, row_width}
 use Rattle.panako_vote.specs.Grids.{grid_of}
 use Rattle.main_votes.specs.Main.{main_of}
 use Rattle.query_search.specs.Voting.{voting}
-use Rattle.query_search.specs.declared.Voters.{Voters}
 use Rattle.query_laws.specs.Candidates as of-reading
 use Rattle.panako_judge.specs.declared.PanakoQuery.{PanakoQuery}
 use Rattle.panako_vote.specs.declared.Vote.{Vote}
@@ -29,17 +28,17 @@ best_in q rs zs = of-reading.best_in (reading q) rs zs
 abbrev pub held_in : List ℕ → List ℕ → List (List ℕ)
 held_in rs ps = entries 5 (get_or rs 2 0) ps
 
-abbrev pub postings_in : Voters → List ℕ → List ℕ → List (List ℕ)
+abbrev pub postings_in : ℕ → List ℕ → List ℕ → List (List ℕ)
 postings_in v rs ps = voting v rs (held_in rs ps)
 
 abbrev pub hashes_in : PanakoQuery → List ℕ → List (List ℕ)
 hashes_in q hs = entries 4 q.q_len hs
 
-abbrev pub words_in : Voters → PanakoQuery → List ℕ → List ℕ → List ℕ → List ℤ
+abbrev pub words_in : ℕ → PanakoQuery → List ℕ → List ℕ → List ℕ → List ℤ
 words_in v q rs ps hs = words (grid_of q.cfg) (postings_in v rs ps) (hashes_in q hs)
 
 -- the answer, where the scratch has room for so many votes
-abbrev pub answer_in : Voters → PanakoQuery → ℕ → List ℕ → List ℕ → List ℕ → Answer
+abbrev pub answer_in : ℕ → PanakoQuery → ℕ → List ℕ → List ℕ → List ℕ → Answer
 answer_in v q room rs ps hs = of-reading.answer_in (reading q) room rs (words_in v q rs ps hs)
 
 -- the words that decide the best: "Too few votes against min_votes: no candidate", so fewer than that beside those of the first one's recording are left out

@@ -1,2 +1,4 @@
--- A Panako query's candidates from the words of its votes.
+-- The candidates of a Panako query, what its postings and hashes are asked, and its answer.
 pub mod Candidates
+pub mod Props
+pub mod Asked

@@ -1,40 +1,50 @@
 // The query of PanakoIndex: votes are counted against the scratch, gathered, sorted, and judged candidate by candidate.
 #![tactic(auto)]
 
-ghost use Rattle.std.specs.Prelude.{◌≡◌, ◌*◌, ◌/◌, ◌≤◌, ◌<◌, pos, length, get_or, take};
+ghost use Rattle.std.specs.Prelude.{◌≡◌, IfSome, ◌*◌, ◌/◌, ◌≤◌, pos, length, get_or, take};
 ghost use Rattle.model.specs.Fingerprints.{hashes_of};
 ghost use Rattle.model.specs.Run.{run_query};
 ghost use Rattle.soundness.specs.Scan.{lent};
 ghost use Rattle.query_rank.specs.Answers.{best_so_far, finding_answer, scratch_after};
 ghost use Rattle.query_search.specs.Starts.{Starts, Ends, Zeros};
-ghost use Rattle.panako_vote.specs.Grids.{grid_of};
-ghost use Rattle.few_bins.specs.Tally.{counted};
+ghost use Rattle.few_bins.specs.Tally.{few_of};
 ghost use Rattle.panako_judge.specs.Judge.{bin_count};
 ghost use Rattle.panako_judge.specs.Candidates.{votes_in};
 ghost use Rattle.panako_judge.specs.Scheme.{query_of, panako, query_with};
-ghost use Rattle.panako_query.specs.Candidates.{best_in, words_in, answer_in, main_in, Limits, Known, Votes, OneRecording, Alike, Posted};
+ghost use Rattle.panako_query.specs.Candidates.{best_in, main_in, Limits, Known, Votes, OneRecording, Alike};
+ghost use Rattle.panako_query.specs.Asked.{words_of, answer_to};
 
+mod asked;
+
+use asked::Asked;
+use bins::Lead;
 use panako_judge::PanakoQuery;
-use panako_vote::{LOWEST, PanakoMatchConfig, ScaleGrid};
-use query_rank::{Best, Finding};
-use query_search::Voters;
+use panako_vote::{LOWEST, PanakoMatchConfig};
+use query_rank::Found;
+use query_search::{Search, Voters};
+use refusals::Refusal;
+use soundness::Store;
+
+// A recording's id in the word of its vote.
+const LEAD: Lead = Lead {
+    low: LOWEST,
+    bits: 52,
+};
 
 // The best candidate by the first v words, which are votes in ascending order. Bins and sums are written from word 2 * v on.
-fn best_of(s: &mut [i64], v: usize, refs: &[u32], q: PanakoQuery) -> Best
+fn best_of(s: &mut [i64], v: usize, refs: &[u32], q: PanakoQuery) -> Option<Found>
     requires { Votes refs.now s.old v q }
     ensures { best_so_far result ≡ best_in q refs.now (take v s.old) }
 {
-    let mut best = Best::Nothing;
+    let mut best = None;
     let mut i = 0;
+    // A `while`, since i goes from run to run.
     while i < v {
-        let e = bins::lead_run_end(s, i, v, LOWEST, 52);
-        let id = bins::lead_at(s, i, LOWEST, 52);
+        let e = LEAD.run_end(s, i, v);
+        let id = LEAD.of(s[i]) as u32;
         let rate = rows::row_word(refs, id as usize, rows::AT_RATE);
-        best = query_rank::keep(
-            best,
-            id as u32,
-            panako_judge::judge(s, i, e - i, 2 * v, q, rate),
-        );
+        let verdict = panako_judge::judge(s, i, e - i, 2 * v, q, rate);
+        best = query_rank::keep(best, id, verdict);
         i = e;
     }
     best
@@ -46,142 +56,122 @@ fn main_votes(s: &mut [i64], v: usize, q: PanakoQuery) -> usize
     requires { v ≤ length s.old }
     ensures { (take result s.new ≡ main_in q (take v s.old)) × (result ≤ v) }
 {
-    let cfg = q.cfg;
-    main_votes::keep_main(s, v, LOWEST, 52, slices::wide(cfg.min_votes))
+    main_votes::keep_main(&mut s[..v], LEAD, u64::from(q.cfg.min_votes))
 }
 
 // The bins of the first v words, where these are votes of one recording and the bins are few, as in most queries that are answered: no order is asked
-// of the votes. The bins are written from word 2 * v on. Yields how many they are, or 0 where they are not counted.
-fn few_bins(s: &mut [i64], v: usize) -> usize
+// of the votes. The bins are written from word 2 * v on. Yields how many they are, none where they are not counted.
+fn few_bins(s: &mut [i64], v: usize) -> Option<usize>
     requires { (6 * v ≤ length s.old) × (v ≤ 1000000) }
-    ensures alike { 0 < result → Alike s.new v result }
+    ensures alike { IfSome result (λ n. Alike s.new v n) }
     ensures s_unchanged { take v s.new ≡ take v s.old }
-    ensures value { OneRecording s.old v → result ≡ counted (bin_count (votes_in s.old 0 v)) }
+    ensures value { OneRecording s.old v → result ≡ few_of (bin_count (votes_in s.old 0 v)) }
 {
     if v == 0 {
-        return 0;
+        return None;
     }
-    if bins::lead_run_end(s, 0, v, LOWEST, 52) < v {
-        return 0;
+    if LEAD.run_end(s, 0, v) < v {
+        return None;
     }
     panako_judge::count_few(s, v, 2 * v)
 }
 
 // The best candidate by the first v words, which are votes of one recording: their n bins stand from word 2 * v on, and their
 // sums are written behind them.
-fn best_of_few(s: &mut [i64], v: usize, n: usize, refs: &[u32], q: PanakoQuery) -> Best
+fn best_of_few(s: &mut [i64], v: usize, n: usize, refs: &[u32], q: PanakoQuery) -> Option<Found>
     requires { Limits refs.now q × Alike s.old v n × Known refs.now (get_or s.old 0 (pos 0)) × (v ≤ 1000000) }
     ensures { best_so_far result ≡ best_in q refs.now (take v s.old) }
 {
-    let id = bins::lead_at(s, 0, LOWEST, 52);
-    let j = id as usize;
-    let rate = rows::row_word(refs, j, rows::AT_RATE);
-    query_rank::keep(
-        Best::Nothing,
-        id as u32,
-        panako_judge::judge_binned(s, v, 2 * v, n, q, rate),
-    )
+    let id = LEAD.of(s[0]) as u32;
+    let rate = rows::row_word(refs, id as usize, rows::AT_RATE);
+    let verdict = panako_judge::judge_binned(s, v, 2 * v, n, q, rate);
+    query_rank::keep(None, id, verdict)
 }
 
-// The best candidate by the votes of the query's hashes with the voters' postings, which are gathered and sorted in the scratch. `starts` and `ends` say where the
-// postings of each hash begin and end, `g` is the scale grid; `which` is written over.
-fn best_candidate(
-    s: &mut [i64],
-    refs: &[u32],
-    posts: &[u32],
-    p: usize,
-    hashes: &[u32],
-    starts: &[u32],
-    ends: &[u32],
-    which: &mut [u32],
-    voters: Voters,
-    q: PanakoQuery,
-    g: ScaleGrid,
-) -> Best
-    requires { Posted refs.now posts.now hashes.now q × (p ≡ get_or refs.now 2 0) × (g ≡ grid_of q.cfg)
-        × (length (words_in voters q refs.now posts.now hashes.now) ≤ 1000000) × (6 * length (words_in voters q refs.now posts.now hashes.now) ≤ length s.old)
-        × Starts posts.now 5 p hashes.now 4 q.q_len starts.now × Ends posts.now 5 p hashes.now 4 q.q_len ends.now
-        × (q.q_len ≤ length starts.now) × (q.q_len ≤ length ends.now) × (q.q_len ≤ length which.old) }
-    ensures { best_so_far result ≡ best_in q refs.now (words_in voters q refs.now posts.now hashes.now) }
-{
-    let v = panako_votes::gather(
-        s, refs, voters, posts, p, hashes, q.q_len, starts, ends, which, g,
-    );
-    let m = main_votes(s, v, q);
-    let n = few_bins(s, m);
-    if 0 < n {
-        return best_of_few(s, m, n, refs, q);
+impl<'a> Asked<'a> {
+    // The best candidate by the votes, which are gathered and sorted in the scratch. `starts` and `ends` say where the postings of each hash begin and
+    // end; `which` is written over.
+    fn best_candidate(
+        self,
+        s: &mut [i64],
+        starts: &[u32],
+        ends: &[u32],
+        which: &mut [u32],
+    ) -> Option<Found>
+        requires { (length (words_of self) ≤ 1000000) × (6 * length (words_of self) ≤ length s.old)
+            × Starts self.search.posts.now 5 self.search.count self.search.hashes.now 4 self.search.hash_count starts.now
+            × Ends self.search.posts.now 5 self.search.count self.search.hashes.now 4 self.search.hash_count ends.now
+            × (self.search.hash_count ≤ length starts.now) × (self.search.hash_count ≤ length ends.now) × (self.search.hash_count ≤ length which.old) }
+        ensures { best_so_far result ≡ best_in self.entry.q self.entry.voters.refs.now (words_of self.entry) }
+    {
+        let v = panako_votes::gather(s, self.search, self.voters, starts, ends, which, self.grid);
+        let m = main_votes(s, v, self.q);
+        if let Some(n) = few_bins(s, m) {
+            return best_of_few(s, m, n, self.voters.refs, self.q);
+        }
+        sorting::sort_words(s, m);
+        best_of(s, m, self.voters.refs, self.q)
     }
-    sorting::sort_words(s, m);
-    best_of(s, m, refs, q)
-}
 
-// The answer of a query to which no refusal before 8 applies. An accepted one leaves zeros in the scratch. `starts` comes in with zeros.
-fn search_in(
-    s: &mut [i64],
-    refs: &[u32],
-    posts: &[u32],
-    hashes: &[u32],
-    voters: Voters,
-    q: PanakoQuery,
-    starts: &mut [u32],
-    ends: &mut [u32],
-    which: &mut [u32],
-) -> Finding
-    requires { Posted refs.now posts.now hashes.now q × (length s.old / 12 ≤ 1000000) × Zeros q.q_len starts.old × (q.q_len ≤ length ends.old) × (q.q_len ≤ length which.old) }
-    ensures result_value { finding_answer result ≡ answer_in voters q (length s.old / 12) refs.now posts.now hashes.now }
-    ensures s_after { s.new ≡ scratch_after (answer_in voters q (length s.old / 12) refs.now posts.now hashes.now) s.old }
-{
-    let room = s.len() / 12;
-    let p = rows::header(refs).postings;
-    let g = panako_vote::scale_grid(q.cfg);
-    query_search::seek(starts, posts, 5, p, hashes, 4, q.q_len);
-    if !panako_votes::fits(
-        ends, refs, voters, posts, p, hashes, q.q_len, starts, g, room,
-    ) {
-        return Finding::Refused(8);
+    // The answer. An accepted query leaves zeros in the scratch. Where the postings of each hash begin and end goes to `starts` and `ends`; `which` is
+    // written over.
+    fn search_in(
+        self,
+        s: &mut [i64],
+        starts: &mut [u32],
+        ends: &mut [u32],
+        which: &mut [u32],
+    ) -> Result<Option<Found>, Refusal>
+        requires { (length s.old / 12 ≤ 1000000) × Zeros self.search.hash_count starts.old
+            × (self.search.hash_count ≤ length ends.old) × (self.search.hash_count ≤ length which.old) }
+        ensures result_value { finding_answer result ≡ answer_to self.entry (length s.old / 12) }
+        ensures s_after { s.new ≡ scratch_after (answer_to self.entry (length s.old / 12)) s.old }
+    {
+        let room = s.len() / 12;
+        self.search.seek(starts);
+        if !panako_votes::fits(ends, self.search, self.voters, starts, self.grid, room) {
+            return Err(Refusal::NoScratch);
+        }
+        let best = self.best_candidate(s, starts, ends, which);
+        s.fill(0);
+        Ok(best)
     }
-    let best = best_candidate(s, refs, posts, p, hashes, starts, ends, which, voters, q, g);
-    maps::zero_words(s);
-    query_rank::answer_of(best)
+
+    // The same, with arrays of its own for up to N hashes.
+    fn search_sized<const N: usize>(self, s: &mut [i64]) -> Result<Option<Found>, Refusal>
+        requires { (length s.old / 12 ≤ 1000000) × (self.search.hash_count ≤ N) × (N ≤ 2048) }
+        ensures result_value { finding_answer result ≡ answer_to self.entry (length s.old / 12) }
+        ensures s_after { s.new ≡ scratch_after (answer_to self.entry (length s.old / 12)) s.old }
+    {
+        let mut starts = [0u32; N];
+        let mut ends = [0u32; N];
+        let mut which = [0u32; N];
+        self.search_in(s, &mut starts, &mut ends, &mut which)
+    }
+
+    // The same, for any number of hashes.
+    fn search(self, s: &mut [i64]) -> Result<Option<Found>, Refusal>
+        requires { length s.old / 12 ≤ 1000000 }
+        ensures result_value { finding_answer result ≡ answer_to self.entry (length s.old / 12) }
+        ensures s_after { s.new ≡ scratch_after (answer_to self.entry (length s.old / 12)) s.old }
+    {
+        if self.search.hash_count <= FEW {
+            return self.search_sized::<FEW>(s);
+        }
+        if self.search.hash_count <= SOME {
+            return self.search_sized::<SOME>(s);
+        }
+        self.search_sized::<MOST>(s)
+    }
 }
 
-// The most hashes of a query whose starts and ends stand in small arrays, and in larger ones: to clear the largest costs a small query more than
-// the search itself.
+// The most hashes of a query whose starts and ends stand in small arrays, in larger ones, and of any query: to clear the largest costs a small query
+// more than the search itself.
 const FEW: usize = 64;
 
 const SOME: usize = 512;
 
-// The same with arrays for where the postings of each hash begin (a) and end (e), and for which hashes have some (met).
-fn search(
-    s: &mut [i64],
-    refs: &[u32],
-    posts: &[u32],
-    hashes: &[u32],
-    voters: Voters,
-    q: PanakoQuery,
-) -> Finding
-    requires { Posted refs.now posts.now hashes.now q × (length s.old / 12 ≤ 1000000) }
-    ensures result_value { finding_answer result ≡ answer_in voters q (length s.old / 12) refs.now posts.now hashes.now }
-    ensures s_after { s.new ≡ scratch_after (answer_in voters q (length s.old / 12) refs.now posts.now hashes.now) s.old }
-{
-    if q.q_len <= FEW {
-        let mut a = [0u32; 64];
-        let mut e = [0u32; 64];
-        let mut met = [0u32; 64];
-        return search_in(s, refs, posts, hashes, voters, q, &mut a, &mut e, &mut met);
-    }
-    if q.q_len <= SOME {
-        let mut a = [0u32; 512];
-        let mut e = [0u32; 512];
-        let mut met = [0u32; 512];
-        return search_in(s, refs, posts, hashes, voters, q, &mut a, &mut e, &mut met);
-    }
-    let mut a = [0u32; 2048];
-    let mut e = [0u32; 2048];
-    let mut met = [0u32; 2048];
-    search_in(s, refs, posts, hashes, voters, q, &mut a, &mut e, &mut met)
-}
+const MOST: usize = 2048;
 
 // What every candidate is judged with: the settings after `normalize_config`.
 fn query_of(hashes: &[u32], frames_per_sec: f32, cfg: PanakoMatchConfig) -> PanakoQuery
@@ -195,26 +185,43 @@ fn query_of(hashes: &[u32], frames_per_sec: f32, cfg: PanakoMatchConfig) -> Pana
 }
 
 // The best recording of a set, 0 for all, for a query, with its result. The store is left as it is, and of the scratch an accepted query leaves zeros.
-pub fn query(
-    refs: &[u32],
-    posts: &[u32],
-    stops: &[u32],
+pub fn query<'a>(
+    refs: &'a [u32],
+    posts: &'a [u32],
+    stops: &'a [u32],
     s: &mut [i64],
-    hashes: &[u32],
+    hashes: &'a [u32],
     frames_per_sec: f32,
     cfg: PanakoMatchConfig,
     set: u32,
-) -> Finding
+) -> Result<Option<Found>, Refusal>
     ensures stops_value { (finding_answer result, lent refs.entry posts.entry stops.entry)
         ≡ run_query panako (lent refs.entry posts.entry stops.entry)
         (query_with cfg frames_per_sec set hashes.now (length s.old)) }
     ensures s_after { s.new ≡ scratch_after (finding_answer result) s.old }
 {
+    let store = Store {
+        refs,
+        posts,
+        stops,
+        width: 5,
+    };
     let q = query_of(hashes, frames_per_sec, cfg);
     let beyond = !panako_vote::within_limits(q.cfg);
-    let r = query_refusals::of_query(refs, posts, stops, 5, s.len(), 12, hashes, beyond, set);
-    if r != 0 {
-        return Finding::Refused(r);
+    query_refusals::of_query(store, s.len(), 12, hashes, beyond, set)?;
+    let search = Search::<5, 4> {
+        posts,
+        count: rows::header(refs).postings,
+        hashes,
+        hash_count: q.q_len,
+    };
+    let voters = Voters { refs, set };
+    let grid = panako_vote::scale_grid(q.cfg);
+    Asked {
+        search,
+        voters,
+        q,
+        grid,
     }
-    search(s, refs, posts, hashes, Voters { set }, q)
+    .search(s)
 }
