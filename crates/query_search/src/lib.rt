@@ -195,7 +195,7 @@ impl<'a, const W: usize, const H: usize> Search<'a, W, H> {
         (self.count - 7 * step) as u32
     }
 
-    // Where the postings of each hash begin.
+    // Where the postings of each hash begin. Here and below, slices with a word for each hash may be longer: callers have arrays of set sizes.
     pub fn seek(self, starts: &mut [u32])
         requires { Zeros self.hash_count starts.old }
         ensures { Starts self.entry.posts.now W self.entry.count self.entry.hashes.now H self.entry.hash_count starts.new }

@@ -89,6 +89,7 @@ fn gather_key(
         return at + voters.first_votes(search.posts, 3 * search.count, start as usize, n);
     }
     let (postings, _) = search.part_of(start, end, key).as_chunks::<3>();
+    // They are n: said so, they aren't counted by a division again.
     query_search::gather_part::<3, QueryHash>(s, at, voters, &postings[..n], hash)
 }
 
