@@ -104,6 +104,7 @@ fn sum_and_weigh(s: &mut [i64], n: usize, q: PanakoQuery, fps: f32) -> Option<Ma
 
 // A candidate: the g votes from word a on, in order, and its row's rate. Its bins and their sums are written from word
 // `at` on.
+// a, g and `at` go on to `bins::count_sorted` as they are.
 pub fn judge(
     s: &mut [i64],
     a: usize,

@@ -32,6 +32,8 @@ const LEAD: Lead = Lead {
 };
 
 // The best candidate by the first v words, which are votes in ascending order. Bins and sums are written from word 2 * v on.
+// One walk for Wang and Panako would ask a trait for how a word is read, what is asked of a vote, what the judge asks and what it writes: more
+// than these lines.
 fn best_of(s: &mut [i64], v: usize, refs: &[u32], q: PanakoQuery) -> Option<Found>
     requires { Votes refs.now s.old v q }
     ensures { best_so_far result ≡ best_in q refs.now (take v s.old) }
@@ -113,8 +115,8 @@ impl<'a> Asked<'a> {
         best_of(s, m, self.voters.refs, self.q)
     }
 
-    // The answer. An accepted query leaves zeros in the scratch. Where the postings of each hash begin and end goes to `starts` and `ends`; `which` is
-    // written over.
+    // The answer. An accepted query leaves zeros in the scratch. Where the postings of each hash begin and end goes to `starts` and `ends`, and `which`
+    // is written over: they come one by one since `ends` is written while `starts` is read.
     fn search_in(
         self,
         s: &mut [i64],

@@ -130,6 +130,7 @@ fn weigh(
 }
 
 // A candidate: the g votes from word a on, in order, and its row's rate and r_max. Its bins are written from word `at` on.
+// a, g and `at` go on to `bins::count_sorted` as they are.
 pub fn judge(
     s: &mut [i64],
     a: usize,

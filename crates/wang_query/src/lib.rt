@@ -25,6 +25,8 @@ use wang_judge::{WangMatchConfig, WangQuery};
 const LEAD: Lead = Lead { low: 0, bits: 44 };
 
 // The best candidate by the first v words, which are votes in ascending order. Bins are written from word 2 * v on.
+// One walk for Wang and Panako would ask a trait for how a word is read, what is asked of a vote, what the judge asks and what it writes: more
+// than these lines.
 fn best_of(s: &mut [i64], v: usize, refs: &[u32], q: WangQuery) -> Option<Found>
     requires { Votes refs.now s.old v q }
     ensures { best_so_far result ≡ best_in q refs.now (take v s.old) }
@@ -67,7 +69,8 @@ impl<'a> Asked<'a> {
         best_of(s, v, self.voters.refs, self.q)
     }
 
-    // The answer. An accepted query leaves zeros in the scratch. Where the postings of each hash begin and end goes to `starts` and `ends`.
+    // The answer. An accepted query leaves zeros in the scratch. Where the postings of each hash begin and end goes to `starts` and `ends`, which come
+    // one by one since `ends` is written while `starts` is read.
     fn search_in(
         self,
         s: &mut [i64],
