@@ -10,6 +10,7 @@ ghost use Rattle.model.specs.Words.{head_width, row_width, row_place};
 ghost use Rattle.rows.specs.References.{CountsOf, header_put, row_put, entry_put};
 
 // "4 words (rows n, vacant v, postings p, stopped k), then R rows" of 5 words: "rate bits, r_max, live (1 or 0), vacant entry", "its set"
+// The words of a row are numbers and not an enum, since they are offsets: `row_word` adds one to the place of a row.
 pub const HEAD_WIDTH: usize = 4;
 
 pub const ROW_WIDTH: usize = 5;
