@@ -1,104 +1,31 @@
-// PanakoIndex on a lent store: three slices of words, as documents 01 ("The lent store") and 02 ("One") lay them out. No call asks anything of what it is
-// lent: it is worked on, or refused with a number and left as it was. A contract is one equation: the answer, with the store at exit, is
-// what `run panako` says of the store at entry and the call. That is the model's account of the calls (crate `model`, specs/Run.antt), of
-// which specs/Demand3.antt states the claim about histories.
+// PanakoIndex: the index of crate `index` at Panako's scheme. A posting has 5 words, key, id, t_anchor, t_b and t_c; a hash key, t_anchor, t_b and t_c; a
+// vote 12 words of scratch.
 #![tactic(auto)]
 
-ghost use Rattle.std.specs.Prelude.{◌≡◌, length};
-ghost use Rattle.model.specs.Calls.{build, insert, remove, replace, live_count, query};
-ghost use Rattle.model.specs.Run.{run};
-ghost use Rattle.soundness.specs.Scan.{lent, words};
-ghost use Rattle.build.specs.Answers.{building_answer};
-ghost use Rattle.insert.specs.Insert.{insertion_answer};
-ghost use Rattle.remove.specs.Answers.{count_answer, removal_answer};
-ghost use Rattle.query_rank.specs.Answers.{finding_answer, scratch_after};
+ghost use Rattle.std.specs.Prelude.{refl};
+ghost use borrow.Author.Tests.{leb-true};
 ghost use Rattle.panako_judge.specs.Scheme.{panako, query_with};
 
-use build::Building;
-use insert::Insertion;
+pub use index::Index;
 use panako_vote::PanakoMatchConfig;
-use query_rank::Finding;
-use remove::{LiveCount, Removal};
-
-// The words of a posting: key, id, t_anchor, t_b, t_c.
-const WIDTH: usize = 5;
+use query_rank::Found;
+use refusals::Refusal;
 
 #[derive(Clone, Copy)]
 pub struct PanakoIndex {}
 
-impl PanakoIndex {
-    // Overwrites the store with the recordings whose hashes, key, t_anchor, t_b and t_c each, stand in one slice, one length, one rate's bits and one set to a
-    // recording. A key with more postings than the limit is stopped.
-    pub fn build(
-        refs: &mut [u32],
-        postings: &mut [u32],
-        stopped: &mut [u32],
-        hashes: &[u32],
-        lengths: &[u32],
-        rates: &[u32],
-        limit: u32,
-        sets: &[u32],
-    ) -> Building
-        ensures { (building_answer result, words refs.new postings.new stopped.new)
-            ≡ run panako (words refs.old postings.old stopped.old)
-            (build limit hashes.now lengths.now rates.now sets.now) }
-    {
-        build::build(
-            refs, postings, stopped, hashes, lengths, rates, WIDTH, limit, sets,
-        )
-    }
+impl Index for PanakoIndex {
+    const WIDTH: usize = 5;
 
-    // Stores one more recording, of a set, and answers its id.
-    pub fn insert(
-        refs: &mut [u32],
-        postings: &mut [u32],
-        stopped: &mut [u32],
-        hashes: &[u32],
-        rate: u32,
-        limit: u32,
-        set: u32,
-    ) -> Insertion
-        ensures { (insertion_answer result, words refs.new postings.new stopped.new)
-            ≡ run panako (words refs.old postings.old stopped.old) (insert limit rate set hashes.now) }
-    {
-        insert::insert(refs, postings, stopped, hashes, WIDTH, rate, limit, set)
-    }
+    type Config = PanakoMatchConfig;
 
-    // Removes a recording, and answers whether it was live.
-    pub fn remove(refs: &mut [u32], postings: &mut [u32], stopped: &[u32], id: u32) -> Removal
-        ensures { (removal_answer result, words refs.new postings.new stopped.now)
-            ≡ run panako (words refs.old postings.old stopped.now) (remove id) }
-    {
-        remove::remove(refs, postings, stopped, WIDTH, id)
-    }
+    ghost WIDTH = { 5 };
 
-    // Swaps a recording for a corrected take, which keeps its id and its set, and answers the id.
-    pub fn replace(
-        refs: &mut [u32],
-        postings: &mut [u32],
-        stopped: &mut [u32],
-        id: u32,
-        hashes: &[u32],
-        rate: u32,
-        limit: u32,
-    ) -> Insertion
-        ensures { (insertion_answer result, words refs.new postings.new stopped.new)
-            ≡ run panako (words refs.old postings.old stopped.old) (replace id limit rate hashes.now) }
-    {
-        replace::replace(refs, postings, stopped, hashes, WIDTH, id, rate, limit)
-    }
+    ghost scheme = { panako };
 
-    // How many recordings are live.
-    pub fn live_count(refs: &[u32], postings: &[u32], stopped: &[u32]) -> LiveCount
-        ensures { (count_answer result, lent refs.entry postings.entry stopped.entry)
-            ≡ run panako (lent refs.entry postings.entry stopped.entry) live_count }
-    {
-        remove::live_count(refs, postings, stopped, WIDTH)
-    }
+    ghost asked = { query_with };
 
-    // The best recording of a set, 0 for all, for a query of hashes, key, t_anchor, t_b and t_c each, with its result. The store is left as it is; of the scratch, 12 words
-    // a vote, an accepted query leaves zeros.
-    pub fn query(
+    fn query(
         refs: &[u32],
         postings: &[u32],
         stopped: &[u32],
@@ -107,12 +34,7 @@ impl PanakoIndex {
         frames_per_sec: f32,
         cfg: PanakoMatchConfig,
         set: u32,
-    ) -> Finding
-        ensures stopped_value { (finding_answer result, lent refs.entry postings.entry stopped.entry)
-            ≡ run panako (lent refs.entry postings.entry stopped.entry)
-            (query (query_with cfg frames_per_sec set hashes.now (length scratch.old))) }
-        ensures scratch_after { scratch.new ≡ scratch_after (finding_answer result) scratch.old }
-    {
+    ) -> Result<Option<Found>, Refusal> {
         panako_query::query(
             refs,
             postings,
@@ -124,4 +46,8 @@ impl PanakoIndex {
             set,
         )
     }
+
+    ghost width = { refl };
+
+    ghost wide = { (leb-true 3 5 refl, leb-true 5 5 refl) };
 }

@@ -1,37 +1,48 @@
 -- The program sheet: what it knows of a read, and what a turn then does. What is read, and what is written, no contract can say. Definitions only.
 -- Assumes nothing.
-use Rattle.std.specs.Prelude.{◌≡◌, ◌⊎◌, true, false, cond, List, ℕ, ◌+◌, ◌≤◌, ◌<◌, take}
+use Rattle.std.specs.Prelude.{Result, Ok, Err, IfOk, IsErr, MatchResult, Option, ◌≡◌, ◌⊎◌, List, ℕ, ◌+◌, ◌≤◌, ◌<◌, take}
 use Rattle.model.specs.Words.{Words}
 use Rattle.sheet_text.specs.Put.{Put}
 use Rattle.sheet_card.specs.declared.Progress.{Progress}
-use Rattle.sheet_card.specs.Turns.{halted, turn_of, body_length, version_fits, start_line, started}
+use Rattle.sheet_card.specs.Turns.{turn_of, body_length, version_fits, start_line, started}
 use Rattle.sheet.specs.declared.Came.{Came}
+use Rattle.sheet.specs.declared.Came.TheVariants.{All, Fewer}
+use Rattle.sheet.specs.declared.Told.{Told}
 
--- the bytes from start to end were asked for, and those up to r.end came: all of them, or fewer, where the input ended or a read failed
-pub record Asked (start end : ℕ) (r : Came) : Type 0 where
-  pub from : start ≤ r.end
-  pub to : r.end ≤ end
-  pub all : r.all ≡ true → r.end ≡ end
-  pub fewer : r.all ≡ false → r.end < end
-  pub failed : r.failed ≡ true → r.all ≡ false
+-- where the bytes that came end
+abbrev pub end_of : Came → ℕ
+end_of (All n) = n
+end_of (Fewer n) = n
 
--- what is printed for the bytes that came, a text, and how far the card has then been read, q. Where the read failed, the line's buffer is as it was and
--- the card doesn't go on. Else the text stands at the buffer's beginning; and the card goes on as `next` says, or, where the text wasn't taken, not at all.
-pub record Answered (came : Came) (line after text : List ℕ) (next halt q : Progress) : Type 0 where
+-- all came, or fewer, where the input ended
+abbrev pub Reaches : ℕ → Came → Type 0
+Reaches end (All n) = n ≡ end
+Reaches end (Fewer n) = n < end
+
+-- the bytes from start to end were asked for, and those up to `end_of came` came
+pub record Asked (start end : ℕ) (came : Came) : Type 0 where
+  pub from : start ≤ end_of came
+  pub reaches : Reaches end came
+
+-- a text was put at the beginning of the line's buffer, and it is answered how far the card has then been read, or, where the text wasn't taken, an error
+pub record Printed (line after text : List ℕ) (next : Option Progress) (r : Result (Option Progress) Told) : Type 0 where
   pub end : ℕ
-  pub failed : came.failed ≡ true → (after ≡ line) × (q ≡ halt)
-  pub read : came.failed ≡ false → Put line after 0 end text × ((q ≡ next) ⊎ (q ≡ halt))
+  pub put : Put line after 0 end text
+  pub answer : (r ≡ Ok next) ⊎ IsErr r
 
--- the version byte was asked for, and where it is wrong a fault's line is put
-pub record VersionRead (q : Progress) (bytes line after : List ℕ) : Type 0 where
-  pub came : Came
-  pub asked : Asked 0 1 came
-  pub answered : let fits = version_fits (take came.end bytes) in Answered came line after (start_line fits) (started fits) (started false) q
+-- the version byte was asked for, and where it is wrong a fault's line is printed. Where the read failed the line's buffer is as it was.
+pub record VersionRead (r : Result (Option Progress) Told) (bytes line after : List ℕ) : Type 0 where
+  pub came : Result Came Told
+  pub asked : IfOk came (Asked 0 1)
+  pub answered : MatchResult came
+      (λ c. let fits = version_fits (take (end_of c) bytes) in Printed line after (start_line fits) (started fits) r)
+      (λ e. (after ≡ line) × (r ≡ Err e))
 
--- from store m to store n and from progress p to progress q: a record with its length field was asked for, its bytes stand at the beginning of
--- `bytes`, and line, store and progress are those of the turn on the bytes that came. Where the read failed the store is as it was.
-pub record TurnTaken (m n : Words) (p q : Progress) (bytes line after : List ℕ) : Type 0 where
-  pub came : Came
-  pub asked : Asked 0 (4 + body_length (take 4 bytes)) came
-  pub answered : let t = turn_of m p (take came.end bytes) in Answered came line after t.line t.next (halted p) q
-  pub store : n ≡ cond came.failed m (turn_of m p (take came.end bytes)).store
+-- from store m to store n and from progress p: a record with its length field was asked for, its bytes stand at the beginning of `bytes`, and line, store
+-- and progress are those of the turn on the bytes that came. Where the read failed the line's buffer and the store are as they were.
+pub record TurnTaken (m n : Words) (p : Progress) (r : Result (Option Progress) Told) (bytes line after : List ℕ) : Type 0 where
+  pub came : Result Came Told
+  pub asked : IfOk came (Asked 0 (4 + body_length (take 4 bytes)))
+  pub answered : MatchResult came
+      (λ c. let t = turn_of m p (take (end_of c) bytes) in Printed line after t.line t.next r × (n ≡ t.store))
+      (λ e. (after ≡ line) × (n ≡ m) × (r ≡ Err e))

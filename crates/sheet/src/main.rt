@@ -3,15 +3,15 @@
 // as it is made. After a read or a write that fails nothing more is printed, so the last line is missing, and standard error has a line that says why.
 #![tactic(auto)]
 
-ghost use Rattle.std.specs.Prelude.{◌≡◌, false, ◌+◌, ◌≤◌, ◌<◌, length, take};
-ghost use Rattle.soundness.specs.Scan.{words};
+ghost use Rattle.std.specs.Prelude.{Bool, IfOk, ◌≡◌, ◌+◌, ◌≤◌, ◌<◌, length, take};
 ghost use Rattle.sheet_text.specs.Put.{line_most};
-ghost use Rattle.sheet_kinds.specs.Kinds.{zero_scratch};
+ghost use Rattle.sheet_records.specs.Memory.{store_of};
 ghost use Rattle.sheet_card.specs.Sheet.{empty_store};
 ghost use Rattle.sheet_card.specs.Turns.{body_length, limit, started};
-ghost use Rattle.sheet.specs.Reading.{Asked, VersionRead, TurnTaken};
+ghost use Rattle.sheet.specs.Reading.{end_of, Asked, VersionRead, TurnTaken};
 
 use sheet_card::Progress;
+use sheet_records::Memory;
 use std::fs::File;
 use std::io::{IsTerminal, Read};
 use std::os::unix::fs::FileTypeExt;
@@ -37,8 +37,12 @@ fn reason(text: &str) -> &str {
     }
 }
 
+// A read or a write failed, and standard error has a line that says why.
+#[derive(Clone, Copy)]
+pub struct Told;
+
 // Tells standard error why a read or a write failed.
-fn fail(rt: HostRuntime, stream: &str, error: io::Error) {
+fn fail(rt: HostRuntime, stream: &str, error: io::Error) -> Told {
     let _ = match format!(in rt.alloc(); "{error}") {
         Ok(text) => {
             let why = reason(text.as_str());
@@ -46,16 +50,27 @@ fn fail(rt: HostRuntime, stream: &str, error: io::Error) {
         }
         Err(_) => eprintln!(rt; "sheet: {stream}: {error}"),
     };
+    Told
 }
 
 // ---- reading
 
-// What came of the bytes that were asked for: where they end, whether all came, and where not, whether a read failed or the input ended.
+// Where the bytes that came end: all that were asked for, or fewer, where the input ended.
 #[derive(Clone, Copy)]
-pub struct Came {
-    pub end: usize,
-    pub all: bool,
-    pub failed: bool,
+pub enum Came {
+    All(usize),
+    Fewer(usize),
+}
+
+impl Came {
+    fn end(self) -> usize
+        ensures { result ≡ end_of self }
+    {
+        match self {
+            Came::All(end) => end,
+            Came::Fewer(end) => end,
+        }
+    }
 }
 
 // Whether standard input is a terminal that has hung up: it reads as ended, and is no terminal any more.
@@ -82,57 +97,48 @@ fn opens_as_terminal(rt: HostRuntime) -> bool {
     }
 }
 
-// Whether a read that answered `got`, no bytes or an error, failed, which standard error is then told.
-fn read_failed(streams: Streams, got: io::Result<usize>) -> bool {
-    let error = match got {
-        Ok(_) => {
-            if !hung_up(streams) {
-                return false;
-            }
-            io::Error::from_raw_os_error(EIO)
-        }
-        Err(e) => e,
-    };
-    fail(streams.rt, "standard input", error);
-    true
+// A read that answered no bytes, of a terminal that has hung up, is one that failed.
+fn ended(streams: Streams) -> Result<(), Told> {
+    if hung_up(streams) {
+        return Err(fail(
+            streams.rt,
+            "standard input",
+            io::Error::from_raw_os_error(EIO),
+        ));
+    }
+    Ok(())
 }
 
 // Reads the bytes from `start` to `end`, as many as the input has.
-fn read_to(streams: Streams, bytes: &mut [u8], start: usize, end: usize) -> Came
+fn read_to(streams: Streams, bytes: &mut [u8], start: usize, end: usize) -> Result<Came, Told>
     requires { (start ≤ end) × (end ≤ length bytes.old) }
-    ensures asked { Asked start end result }
+    ensures asked { IfOk result (Asked start end) }
     ensures bytes_unchanged { take start bytes.new ≡ take start bytes.old }
 {
     let mut stdin = streams.rt.stdin();
     let mut at = start;
     while at < end {
         match stdin.read(&mut bytes[at..end]) {
-            Ok(n) if n > 0 => at += n,
-            got => {
-                return Came {
-                    end: at,
-                    all: false,
-                    failed: read_failed(streams, got),
-                };
+            Ok(0) => {
+                ended(streams)?;
+                return Ok(Came::Fewer(at));
             }
+            Ok(n) => at += n,
+            Err(e) => return Err(fail(streams.rt, "standard input", e)),
         }
     }
-    Came {
-        end: at,
-        all: true,
-        failed: false,
-    }
+    Ok(Came::All(at))
 }
 
 // Reads the next record with its length field into the beginning of `bytes`, as much as the input has of it.
-fn read_record(streams: Streams, bytes: &mut [u8]) -> Came
+fn read_record(streams: Streams, bytes: &mut [u8]) -> Result<Came, Told>
     requires { 8196 ≤ length bytes.old }
-    ensures asked { Asked 0 (4 + body_length (take 4 bytes.new)) result }
-    ensures end_bound { result.end ≤ 8196 }
+    ensures asked { IfOk result (Asked 0 (4 + body_length (take 4 bytes.new))) }
+    ensures end_bound { IfOk result (λ came. end_of came ≤ 8196) }
 {
-    let head = read_to(streams, bytes, 0, 4);
-    if head.end < 4 {
-        return head;
+    let head = read_to(streams, bytes, 0, 4)?;
+    if head.end() < 4 {
+        return Ok(head);
     }
     let len = sheet_card::body_length(&bytes[..4]);
     read_to(streams, bytes, 4, 4 + len)
@@ -140,106 +146,66 @@ fn read_record(streams: Streams, bytes: &mut [u8]) -> Came
 
 // ---- writing
 
-// Writes the first bytes of a buffer, and answers whether all were taken. Where not, standard error is told.
-fn print(streams: Streams, line: &[u8], end: usize) -> bool
-    requires { end ≤ length line.now }
-{
-    match streams.rt.write_all(&line[..end]) {
-        Ok(()) => true,
-        Err(e) => {
-            fail(streams.rt, "standard output", e);
-            false
-        }
+fn print(streams: Streams, line: &[u8]) -> Result<(), Told> {
+    match streams.rt.write_all(line) {
+        Ok(()) => Ok(()),
+        Err(e) => Err(fail(streams.rt, "standard output", e)),
     }
 }
 
 // ---- the card
 
-// Nothing was read, and the card doesn't go on.
-fn none_read() -> Progress
-    ensures { result ≡ started false }
-{
-    Progress {
-        records: 0,
-        offset: 1,
-        more: false,
-    }
-}
-
-// Reads the version byte and, where it is wrong, prints a fault's line. After a read or a write that failed the card doesn't go on.
-fn read_version(streams: Streams, bytes: &mut [u8], line: &mut [u8]) -> Progress
+// Reads the version byte and, where it is wrong, prints a fault's line. Yields how far the card has been read.
+fn read_version(
+    streams: Streams,
+    bytes: &mut [u8],
+    line: &mut [u8],
+) -> Result<Option<Progress>, Told>
     requires { (8196 ≤ length bytes.old) × (line_most ≤ length line.old) }
     ensures { VersionRead result bytes.new line.old line.new }
 {
-    let got = read_to(streams, bytes, 0, 1);
-    if got.failed {
-        return none_read();
-    }
-    let n = got.end;
+    let n = read_to(streams, bytes, 0, 1)?.end();
     let s = sheet_card::begin(&bytes[..n], line, 0);
-    if !print(streams, line, s.end) {
-        return none_read();
-    }
-    s.next
+    print(streams, &line[..s.end])?;
+    Ok(s.next)
 }
 
-// The header, then the version byte. Yields how far the card has been read.
-fn start(streams: Streams, bytes: &mut [u8], line: &mut [u8]) -> Progress
+// The header, then the version byte.
+fn start(streams: Streams, bytes: &mut [u8], line: &mut [u8]) -> Result<Option<Progress>, Told>
     requires { (8196 ≤ length bytes.old) × (line_most ≤ length line.old) }
-    ensures { result ≡ started result.more }
+    ensures { IfOk result (λ q. (fits : Bool) × (q ≡ started fits)) }
 {
     let head = sheet_card::put_header(line);
-    if !print(streams, line, head) {
-        return none_read();
-    }
+    print(streams, &line[..head])?;
     read_version(streams, bytes, line)
 }
 
-// A turn: reads what it needs, and prints its line. After a read or a write that failed the card doesn't go on.
+// A turn: reads what it needs, and prints its line.
 fn take_turn(
     streams: Streams,
-    refs: &mut [u32],
-    postings: &mut [u32],
-    stopped: &mut [u32],
-    scratch: &mut [i64],
+    memory: &mut Memory,
     bytes: &mut [u8],
     line: &mut [u8],
     p: Progress,
-) -> Progress
-    requires { (scratch.old ≡ zero_scratch) × (8196 ≤ length bytes.old) × (line_most ≤ length line.old) × (p.records ≤ p.offset) × (p.offset < limit) }
-    ensures turn_taken { TurnTaken (words refs.old postings.old stopped.old) (words refs.new postings.new stopped.new) p result
-        bytes.new line.old line.new }
-    ensures scratch_after { scratch.new ≡ zero_scratch }
+) -> Result<Option<Progress>, Told>
+    requires { (8196 ≤ length bytes.old) × (line_most ≤ length line.old) × (p.records ≤ p.offset) × (p.offset < limit) }
+    ensures { TurnTaken (store_of memory.old) (store_of memory.new) p result bytes.new line.old line.new }
 {
-    let got = read_record(streams, bytes);
-    if got.failed {
-        return sheet_card::stop(p);
-    }
-    let n = got.end;
-    let t = sheet_card::turn(&bytes[..n], refs, postings, stopped, scratch, line, 0, p);
-    if !print(streams, line, t.end) {
-        return sheet_card::stop(p);
-    }
-    t.next
+    let n = read_record(streams, bytes)?.end();
+    let t = sheet_card::turn(&bytes[..n], memory, line, 0, p);
+    print(streams, &line[..t.end])?;
+    Ok(t.next)
 }
 
 // The whole card, on the store that a card's meaning begins with.
-fn run(
-    streams: Streams,
-    refs: &mut [u32],
-    postings: &mut [u32],
-    stopped: &mut [u32],
-    scratch: &mut [i64],
-    bytes: &mut [u8],
-    line: &mut [u8],
-)
-    requires refs_value { (refs.old ≡ empty_store.references) × (postings.old ≡ empty_store.postings) × (stopped.old ≡ empty_store.stopped) }
-    requires scratch_value { (scratch.old ≡ zero_scratch) × (8196 ≤ length bytes.old) × (line_most ≤ length line.old) }
+fn run(streams: Streams, memory: &mut Memory, bytes: &mut [u8], line: &mut [u8]) -> Result<(), Told>
+    requires { (store_of memory.old ≡ empty_store) × (8196 ≤ length bytes.old) × (line_most ≤ length line.old) }
 {
-    let mut p = start(streams, bytes, line);
-    while sheet_card::goes_on(p) {
-        p = take_turn(streams, refs, postings, stopped, scratch, bytes, line, p);
+    let mut next = start(streams, bytes, line)?;
+    while let Some(p) = next {
+        next = take_turn(streams, memory, bytes, line, p)?;
     }
+    Ok(())
 }
 
 fn main(rt: HostRuntime) {
@@ -247,19 +213,8 @@ fn main(rt: HostRuntime) {
         rt,
         was_terminal: rt.stdin().is_terminal(),
     };
-    let mut refs = sheet_card::zero_references();
-    let mut postings = sheet_card::zero_postings();
-    let mut stopped = sheet_card::zero_stopped();
-    let mut scratch = sheet_card::zero_scratch();
+    let mut memory = sheet_card::empty_memory();
     let mut bytes = [0u8; 8196];
     let mut line = [0u8; sheet_text::LINE_MOST];
-    run(
-        streams,
-        &mut refs,
-        &mut postings,
-        &mut stopped,
-        &mut scratch,
-        &mut bytes,
-        &mut line,
-    );
+    let _ = run(streams, &mut memory, &mut bytes, &mut line);
 }

@@ -3,13 +3,13 @@
 use mathlib.Core.Path.{◌≡◌, refl, sym, ap, ◌∙◌}
 use mathlib.Core.Bool.{Bool, true, false, cond}
 use mathlib.Core.List.{List, [], ◌∷◌, ◌++◌, append_assoc, append-nil}
-use mathlib.Core.Option.{none}
+use Rattle.std.proofs.Common.{Option, Some, None}
 use Prim.Native.Nat.{ℕ, zero, suc, ◌+◌, ◌≤◌, ◌<◌, min}
 use native.Mathlib.Omega.{arith}
 use lib.Dec.{eqb}
 use lib.ListN.{length, get_or, take, drop, length-take, length-drop}
 use lib.Seq.{take-take, take-add, get_or-take, length-take-le}
-use borrow.Author.Tests.{lt-ltb, eqb-true, eqb-false}
+use borrow.Author.Tests.{eqb-true, eqb-false}
 use Rattle.lists.proofs.Entries.{drop-take}
 use Rattle.lists.proofs.Tests.{test, not-both}
 use Rattle.model.specs.Words.{Words}
@@ -19,9 +19,9 @@ use Rattle.sheet_records.specs.Step.{step_of}
 use Rattle.sheet_card.specs.declared.Progress.{Progress}
 use Rattle.sheet_card.specs.Ends.{header, end_line, fault_line}
 use Rattle.sheet_card.specs.Sheet.{Card, faulty, ended, preceded, length_at, record_at, whole, records_from, lines_of, last_line, sheet_on, empty_store, sheet_of}
-use Rattle.sheet_card.specs.Turns.{Outcome, last, taken, halted, advanced, turn_of, body_length, read_of, version_fits, limit, goes_on, start_line, started, turn_lines, printed}
+use Rattle.sheet_card.specs.Turns.{Outcome, last, taken, going, advanced, turn_of, body_length, read_of, version_fits, limit, start_line, started, turn_lines, printed}
 use Rattle.sheet_card.proofs.Reading.{Whole, whole-none, whole_is, is_whole, body-fits, record-some, record-short}
-use Rattle.sheet_card.proofs.Turns.{turn_end, turn-fault, turn-record}
+use Rattle.sheet_card.proofs.Turns.{turn_end, turn-fault, turn-record, going-on}
 
 -- ---- a turn depends only on what is read for it
 
@@ -65,7 +65,7 @@ same-record s L e =
     ∙ ap (λ (n : ℕ). take n (drop 4 s)) e
 
 same_taken : (m : Words) (p : Progress) (s t : List ℕ) → record_at s ≡ record_at t → length_at s ≡ length_at t → taken m p s ≡ taken m p t
-same_taken m p s t e f = λ i. record { line = (step_of m (e i)).0; store = (step_of m (e i)).1; next = advanced p (f i) }
+same_taken m p s t e f = λ i. record { line = (step_of m (e i)).0; store = (step_of m (e i)).1; next = going (advanced p (f i)) }
 
 turn-read : (m : Words) (p : Progress) (s : List ℕ) → turn_of m p (read_of s) ≡ turn_of m p s
 turn-read m p s = test (whole s) (λ h. same (whole_is s h)) (λ h. test (eqb (length s) 0) (λ z. empty (eqb-true (length s) 0 z)) (λ z. fault h (eqb-false (length s) 0 z)))
@@ -95,19 +95,19 @@ turn-read m p s = test (whole s) (λ h. same (whole_is s h)) (λ h. test (eqb (l
 
 -- ---- turn after turn
 
-pub halted-lines : (k : ℕ) (m : Words) (p : Progress) (s : List ℕ) → goes_on p ≡ false → turn_lines k m p s ≡ []
+pub no-lines : (k : ℕ) (m : Words) (s : List ℕ) → turn_lines k m None s ≡ []
 unfolding turn_lines
-halted-lines zero m p s h = refl
-halted-lines (suc k) m p s h = rw h
+no-lines zero m s = refl
+no-lines (suc k) m s = refl
 
-pub one-turn : (k : ℕ) (m : Words) (p : Progress) (s : List ℕ) (o : Outcome) → goes_on p ≡ true → turn_of m p s ≡ o
-    → turn_lines (suc k) m p s ≡ o.line ++ turn_lines k o.store o.next (drop (length (read_of s)) s)
+pub one-turn : (k : ℕ) (m : Words) (p : Progress) (s : List ℕ) (o : Outcome) → turn_of m p s ≡ o
+    → turn_lines (suc k) m (Some p) s ≡ o.line ++ turn_lines k o.store o.next (drop (length (read_of s)) s)
 unfolding turn_lines
-one-turn k m p s o g e = rw g (ap (λ (x : Outcome). x.line ++ turn_lines k x.store x.next (drop (length (read_of s)) s)) (turn-read m p s ∙ e))
+one-turn k m p s o e = ap (λ (x : Outcome). x.line ++ turn_lines k x.store x.next (drop (length (read_of s)) s)) (turn-read m p s ∙ e)
 
-last_turn : (k : ℕ) (m : Words) (p : Progress) (s l : List ℕ) → goes_on p ≡ true → turn_of m p s ≡ last m p l → turn_lines (suc k) m p s ≡ l
-last_turn k m p s l g e =
-    one-turn k m p s (last m p l) g e ∙ ap (λ (x : List ℕ). l ++ x) (halted-lines k m (halted p) (drop (length (read_of s)) s) refl) ∙ append-nil l
+last_turn : (k : ℕ) (m : Words) (p : Progress) (s l : List ℕ) → turn_of m p s ≡ last m l → turn_lines (suc k) m (Some p) s ≡ l
+last_turn k m p s l e =
+    one-turn k m p s (last m l) e ∙ ap (λ (x : List ℕ). l ++ x) (no-lines k m (drop (length (read_of s)) s)) ∙ append-nil l
 
 -- ---- the records of a card, one by one
 
@@ -153,50 +153,49 @@ rest_more m n r c =
     append_assoc (step_of m r).0 (lines_of (step_of m r).1 c.records) (last_line (n + suc (length c.records)) c.fault)
     ∙ ap (λ (k : ℕ). (step_of m r).0 ++ (lines_of (step_of m r).1 c.records ++ last_line k c.fault)) e
 
-going : (p : Progress) (s : List ℕ) → p.offset + length s < limit → p.more ≡ true → goes_on p ≡ true
-going p s l g = rw (g, lt-ltb p.offset limit (omega arith))
-
 -- no whole record stands here
-last-is : (k : ℕ) (m : Words) (p : Progress) (s : List ℕ) → goes_on p ≡ true → whole s ≡ false → turn_lines (suc k) m p s ≡ rest m p.records (records_from k p.offset s)
-last-is k m p s g h =
+last-is : (k : ℕ) (m : Words) (p : Progress) (s : List ℕ) → whole s ≡ false → turn_lines (suc k) m (Some p) s ≡ rest m p.records (records_from k p.offset s)
+last-is k m p s h =
     test (eqb (length s) 0)
     (λ z. let e = eqb-true (length s) 0 z in
-    last_turn k m p s (end_line p.records) g (turn_end m p s e) ∙ sym (ap (λ (c : Card). rest m p.records c) (records-end k p.offset s e) ∙ rest_end m p.records))
+    last_turn k m p s (end_line p.records) (turn_end m p s e) ∙ sym (ap (λ (c : Card). rest m p.records c) (records-end k p.offset s e) ∙ rest_end m p.records))
     (λ z. let e = eqb-false (length s) 0 z in
-    last_turn k m p s (fault_line p.offset) g (turn-fault m p s e h) ∙ sym (ap (λ (c : Card). rest m p.records c) (records-fault k p.offset s e h) ∙ rest-fault m p.records p.offset))
+    last_turn k m p s (fault_line p.offset) (turn-fault m p s e h) ∙ sym (ap (λ (c : Card). rest m p.records c) (records-fault k p.offset s e h) ∙ rest-fault m p.records p.offset))
 
 -- a whole record, with what is printed behind it
-record_is : (k : ℕ) (m : Words) (p : Progress) (s : List ℕ) → goes_on p ≡ true → Whole s
-    → turn_lines (suc k) (step_of m (record_at s)).1 (advanced p (length_at s)) (drop (4 + length_at s) s)
+record_is : (k : ℕ) (m : Words) (p : Progress) (s : List ℕ) → p.offset + length s < limit → Whole s
+    → turn_lines (suc k) (step_of m (record_at s)).1 (Some (advanced p (length_at s))) (drop (4 + length_at s) s)
     ≡ rest (step_of m (record_at s)).1 (p.records + 1) (records_from k (p.offset + 4 + length_at s) (drop (4 + length_at s) s))
-    → turn_lines (suc (suc k)) m p s ≡ rest m p.records (records_from (suc k) p.offset s)
-record_is k m p s g w ih =
+    → turn_lines (suc (suc k)) m (Some p) s ≡ rest m p.records (records_from (suc k) p.offset s)
+record_is k m p s l w ih =
     let h = is_whole s w in
     let n : length (read_of s) ≡ 4 + length_at s = ap (λ (l : List ℕ). length l) (read_whole s w) ∙ length-take-le (4 + length_at s) s w.reaches in
-    one-turn (suc k) m p s (taken m p s) g (turn-record m p s h)
-    ∙ ap (λ (j : ℕ). (step_of m (record_at s)).0 ++ turn_lines (suc k) (step_of m (record_at s)).1 (advanced p (length_at s)) (drop j s)) n
+    let g = going-on (advanced p (length_at s)) (omega (arith, w.reaches)) in
+    one-turn (suc k) m p s (taken m p s) (turn-record m p s h)
+    ∙ ap (λ (q : Option Progress). (step_of m (record_at s)).0 ++ turn_lines (suc k) (step_of m (record_at s)).1 q (drop (length (read_of s)) s)) g
+    ∙ ap (λ (j : ℕ). (step_of m (record_at s)).0 ++ turn_lines (suc k) (step_of m (record_at s)).1 (Some (advanced p (length_at s))) (drop j s)) n
     ∙ ap (λ (l : List ℕ). (step_of m (record_at s)).0 ++ l) ih
     ∙ sym (ap (λ (c : Card). rest m p.records c) (records-more k p.offset s h) ∙ rest_more m p.records (record_at s) (records_from k (p.offset + 4 + length_at s) (drop (4 + length_at s) s)))
 
-turns-are : (k : ℕ) (m : Words) (p : Progress) (s : List ℕ) → length s ≤ k → p.offset + length s < limit → p.more ≡ true
-    → turn_lines (suc k) m p s ≡ rest m p.records (records_from k p.offset s)
-turns-are zero m p s h l g = last-is 0 m p s (going p s l g) (sym (whole-none s (omega arith)))
-turns-are (suc k) m p s h l g =
+turns-are : (k : ℕ) (m : Words) (p : Progress) (s : List ℕ) → length s ≤ k → p.offset + length s < limit
+    → turn_lines (suc k) m (Some p) s ≡ rest m p.records (records_from k p.offset s)
+turns-are zero m p s h l = last-is 0 m p s (sym (whole-none s (omega arith)))
+turns-are (suc k) m p s h l =
     test (whole s)
     (λ y. let w = whole_is s y in let d = length-drop (4 + length_at s) s in
-    record_is k m p s (going p s l g) w
-    (turns-are k (step_of m (record_at s)).1 (advanced p (length_at s)) (drop (4 + length_at s) s) (omega (arith, d, w.reaches)) (omega (arith, d, w.reaches)) refl))
-    (λ y. last-is (suc k) m p s (going p s l g) y)
+    record_is k m p s l w
+    (turns-are k (step_of m (record_at s)).1 (advanced p (length_at s)) (drop (4 + length_at s) s) (omega (arith, d, w.reaches)) (omega (arith, d, w.reaches))))
+    (λ y. last-is (suc k) m p s y)
 
 -- ---- the whole sheet
 
 wrong-version : (m : Words) (k : ℕ) (s : List ℕ) → start_line false ++ turn_lines k m (started false) s ≡ fault_line 0
-wrong-version m k s = ap (λ (l : List ℕ). fault_line 0 ++ l) (halted-lines k m (started false) s refl) ∙ append-nil (fault_line 0)
+wrong-version m k s = ap (λ (l : List ℕ). fault_line 0 ++ l) (no-lines k m s) ∙ append-nil (fault_line 0)
 
 by-version : (m : Words) (s : List ℕ) (fits : Bool) → 1 + length s < limit
     → start_line fits ++ turn_lines (suc (length s)) m (started fits) s ≡ rest m 0 (cond fits (records_from (length s) 1 s) (faulty 0))
 unfolding lines_of
-by-version m s true l = turns-are (length s) m (started true) s (omega arith) l refl
+by-version m s true l = turns-are (length s) m (record { records = 0; offset = 1 }) s (omega arith) l
 by-version m s false l = wrong-version m (suc (length s)) s
 
 -- what the program prints, turn by turn, is the sheet of the card

@@ -1,40 +1,22 @@
--- Laws of what is read of a card: the version byte, a length field, a whole record. Assumes nothing.
+-- Laws of what is read of a card: a length field, a whole record. Assumes nothing.
 use mathlib.Core.Path.{◌≡◌, ap, ◌∙◌}
 use mathlib.Core.Bool.{true, false, ◌&&◌}
 use mathlib.Core.List.{List}
 use Prim.Native.Nat.{ℕ, ◌+◌, ◌-◌, ◌≤◌, ◌<◌}
 use native.Mathlib.Omega.{arith}
-use lib.Dec.{eqb, leb}
+use lib.Dec.{leb}
 use lib.ListN.{length, get_or, take, drop, length-drop}
 use lib.Seq.{length-take-le, get_or-take, get_or-drop}
-use borrow.Author.Tests.{leb-true, le-leb, lt-leb, eq-eqb, ne_eqb}
+use borrow.Author.Tests.{leb-true, le-leb, lt-leb}
 use Rattle.lists.proofs.Tests.{and_left, and_right}
 use Rattle.sheet_kinds.specs.Kinds.{good_length}
 use Rattle.sheet_kinds.proofs.Lengths.{good-long}
 use Rattle.sheet_card.specs.Sheet.{length_at, record_at, whole}
-use Rattle.sheet_card.specs.Turns.{body_length, version_fits}
-
--- ---- the version byte
-
-pub version-none : (v : List ℕ) → (length v ≡ 1 → ⊥) → false ≡ version_fits v
-unfolding version_fits
-version-none v h = rw (ne_eqb (length v) 1 h)
-
-pub version-one : (v : List ℕ) → length v ≡ 1 → eqb (get_or v 0 0) 1 ≡ version_fits v
-unfolding version_fits
-version-one v h = rw (eq-eqb (length v) 1 h)
+use Rattle.sheet_card.specs.Turns.{body_length}
 
 -- ---- a length field
 
-pub body-cut : (s : List ℕ) → length s < 4 → 0 ≡ body_length s
-unfolding body_length
-body-cut s h = rw (lt-leb 4 (length s) h)
-
 module _ (s : List ℕ) (n : ℕ) (e : n ≡ length_at s) (l : 4 ≤ length s) where
-  pub body-long : 8192 < n → 0 ≡ body_length s
-  unfolding body_length
-  body-long h = rw (le-leb 4 (length s) l, ← e, lt-leb n 8192 h)
-
   pub body-fits : n ≤ 8192 → n ≡ body_length s
   unfolding body_length
   body-fits h = rw (le-leb 4 (length s) l, ← e, le-leb n 8192 h)
@@ -62,15 +44,6 @@ is_whole s w = rw (le-leb 5 (length s) w.begins, le-leb (4 + length_at s) (lengt
 pub whole-none : (s : List ℕ) → length s < 5 → false ≡ whole s
 unfolding whole
 whole-none s h = rw (lt-leb 5 (length s) h)
-
-module _ (s : List ℕ) (n : ℕ) (e : n ≡ length_at s) (l : 5 ≤ length s) where
-  pub whole-cut : length s - 4 < n → false ≡ whole s
-  unfolding whole
-  whole-cut h = rw (le-leb 5 (length s) l, ← e, lt-leb (4 + n) (length s) (omega arith))
-
-  pub whole-at : n ≤ length s - 4 → good_length n (get_or s 4 0) ≡ whole s
-  unfolding whole
-  whole-at h = rw (le-leb 5 (length s) l, ← e, le-leb (4 + n) (length s) (omega arith))
 
 module _ (s : List ℕ) (w : Whole s) where
   pub record-some : 1 ≤ length_at s

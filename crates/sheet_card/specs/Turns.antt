@@ -1,5 +1,5 @@
 -- How the program goes through a card, turn by turn: what it reads, what it prints and when it ends. Definitions only. Assumes nothing.
-use Rattle.std.specs.Prelude.{Bool, true, false, cond, ◌&&◌, List, [], ◌++◌, ℕ, zero, suc, ◌+◌, ◌^◌, length, get_or, take, drop, eqb, leb, ltb}
+use Rattle.std.specs.Prelude.{Option, Some, None, Bool, cond, ◌&&◌, List, [], ◌++◌, ℕ, zero, suc, ◌+◌, ◌^◌, length, get_or, take, drop, eqb, leb, ltb}
 use Rattle.lists.specs.Lists.{none?}
 use Rattle.model.specs.Words.{Words}
 use Rattle.sheet_records.specs.Step.{step_of}
@@ -7,28 +7,33 @@ use Rattle.sheet_card.specs.declared.Progress.{Progress}
 use Rattle.sheet_card.specs.Ends.{header, end_line, fault_line}
 use Rattle.sheet_card.specs.Sheet.{length_at, record_at, whole}
 
+-- cards of fewer bytes are read to their end
+abbrev pub limit : ℕ
+limit = 2 ^ 63
+
+-- the card goes on below the limit
+abbrev pub going : Progress → Option Progress
+going p = cond (ltb p.offset limit) (Some p) None
+
 -- ── one turn ──
 
--- what a turn prints, the store that it leaves, and how far the card has then been read: the records so far, the offset of the next length
--- field, and whether the card goes on
+-- what a turn prints, the store that it leaves, and how far the card has then been read, where it goes on: the records so far, and the offset of
+-- the next length field
 pub record Outcome : Type 0 where
   pub line : List ℕ
   pub store : Words
-  pub next : Progress
-
--- behind the last line
-abbrev pub halted : Progress → Progress
-halted p = record { records = p.records; offset = p.offset; more = false }
+  pub next : Option Progress
 
 -- a record of so many bytes behind its length field
 abbrev pub advanced : Progress → ℕ → Progress
-advanced p len = record { records = p.records + 1; offset = p.offset + 4 + len; more = true }
+advanced p len = record { records = p.records + 1; offset = p.offset + 4 + len }
 
-abbrev pub last : Words → Progress → List ℕ → Outcome
-last m p line = record { line = line; store = m; next = halted p }
+-- the last line
+abbrev pub last : Words → List ℕ → Outcome
+last m line = record { line = line; store = m; next = None }
 
 abbrev pub taken : Words → Progress → List ℕ → Outcome
-taken m p s = record { line = (step_of m (record_at s)).0; store = (step_of m (record_at s)).1; next = advanced p (length_at s) }
+taken m p s = record { line = (step_of m (record_at s)).0; store = (step_of m (record_at s)).1; next = going (advanced p (length_at s)) }
 
 -- the end's line where nothing was read, else a fault's
 abbrev pub last_of : Progress → Bool → List ℕ
@@ -36,7 +41,7 @@ last_of p nothing = cond nothing (end_line p.records) (fault_line p.offset)
 
 -- a turn on the bytes s that were read for it: a whole record, or the last line
 unfoldable pub turn_of : Words → Progress → List ℕ → Outcome
-turn_of m p s = cond (whole s) (taken m p s) (last m p (last_of p (none? s)))
+turn_of m p s = cond (whole s) (taken m p s) (last m (last_of p (none? s)))
 
 -- ── reading ──
 
@@ -54,26 +59,20 @@ version_fits v = eqb (length v) 1 && eqb (get_or v 0 0) 1
 
 -- ── the whole card ──
 
--- cards of fewer bytes are read to their end
-abbrev pub limit : ℕ
-limit = 2 ^ 63
-
-abbrev pub goes_on : Progress → Bool
-goes_on p = p.more && ltb p.offset limit
-
 -- by what was read of the version byte: a fault's line where the version is wrong
 abbrev pub start_line : Bool → List ℕ
 start_line fits = cond fits [] (fault_line 0)
 
-abbrev pub started : Bool → Progress
-started fits = record { records = 0; offset = 1; more = fits }
+abbrev pub started : Bool → Option Progress
+started fits = cond fits (Some (record { records = 0; offset = 1 })) None
 
 -- the lines of at most so many turns, s being the bytes that are left
-unfoldable pub turn_lines : ℕ → Words → Progress → List ℕ → List ℕ
-turn_lines zero m p s = []
-turn_lines (suc turns) m p s =
+unfoldable pub turn_lines : ℕ → Words → Option Progress → List ℕ → List ℕ
+turn_lines zero m q s = []
+turn_lines (suc turns) m None s = []
+turn_lines (suc turns) m (Some p) s =
     let t = turn_of m p (read_of s) in
-    cond (goes_on p) (t.line ++ turn_lines turns t.store t.next (drop (length (read_of s)) s)) []
+    t.line ++ turn_lines turns t.store t.next (drop (length (read_of s)) s)
 
 -- the sheet as the program prints it on a store m: each read yields what stands next in the card s. As many turns as bytes are enough.
 abbrev pub printed : Words → List ℕ → List ℕ

@@ -3,28 +3,29 @@
 // that is held in memory.
 #![tactic(auto)]
 
-ghost use Rattle.std.specs.Prelude.{◌≡◌, false, ◌+◌, ◌*◌, ◌≤◌, ◌<◌, length};
-ghost use Rattle.soundness.specs.Scan.{lent, words};
+ghost use Rattle.std.specs.Prelude.{◌≡◌, false, ◌+◌, ◌≤◌, ◌<◌, length};
+ghost use Rattle.lists.specs.Lists.{none?};
 ghost use Rattle.sheet_text.specs.Put.{line_most, Put};
-ghost use Rattle.sheet_kinds.specs.Kinds.{zero_scratch};
+ghost use Rattle.sheet_records.specs.Memory.{store_of};
 ghost use Rattle.sheet_card.specs.Ends.{header, end_line, fault_line};
 ghost use Rattle.sheet_card.specs.Sheet.{length_at, whole, empty_store, sheet_of};
-ghost use Rattle.sheet_card.specs.Turns.{halted, advanced, last_of, turn_of, body_length, version_fits, limit, goes_on, start_line, started};
-ghost use Rattle.sheet_card.specs.Held.{Going, remains, sheet_room, has_room, held_sheet};
+ghost use Rattle.sheet_card.specs.Turns.{advanced, going, last_of, turn_of, body_length, version_fits, limit, start_line, started};
+ghost use Rattle.sheet_card.specs.Held.{Going, remains, has_room, held_sheet};
 
-// How far a card has been read: the records so far, the offset of the next length field, and whether the card goes on.
+use sheet_records::Memory;
+
+// How far a card has been read where it goes on: the records so far, and the offset of the next length field.
 #[derive(Clone, Copy)]
 pub struct Progress {
     pub records: u64,
     pub offset: u64,
-    pub more: bool,
 }
 
-// Where the lines end in the lent buffer, and how far the card has been read.
+// Where the lines end in the lent buffer, and how far the card has been read, or that it doesn't go on.
 #[derive(Clone, Copy)]
 pub struct Turned {
     pub end: usize,
-    pub next: Progress,
+    pub next: Option<Progress>,
 }
 
 // ---- the sheet's first line and its last
@@ -44,7 +45,7 @@ fn put_end(line: &mut [u8], at: usize, records: u64) -> usize
 {
     let a = sheet_text::put_bytes(line, at, b"end");
     let b = sheet_text::put_number(line, a, records);
-    sheet_text::put_byte(line, b, 10)
+    sheet_text::put_byte(line, b, b'\n')
 }
 
 fn put_fault(line: &mut [u8], at: usize, offset: u64) -> usize
@@ -52,19 +53,20 @@ fn put_fault(line: &mut [u8], at: usize, offset: u64) -> usize
     ensures put { Put line.old line.new at result (fault_line offset) }
     ensures upper_bound { result ≤ at + line_most }
 {
-    sheet_text::put_short(line, at, 88, offset)
+    sheet_text::put_short(line, at, b'X', offset)
 }
 
-// The last line, after a read that yielded nothing or no whole record.
-fn put_last(line: &mut [u8], at: usize, p: Progress, nothing: bool) -> usize
+// The last line, behind the bytes of a read: nothing, or no whole record.
+fn put_last(line: &mut [u8], at: usize, p: Progress, bytes: &[u8]) -> usize
     requires { at + line_most ≤ length line.old }
-    ensures put { Put line.old line.new at result (last_of p nothing) }
+    ensures put { Put line.old line.new at result (last_of p (none? bytes.now)) }
     ensures upper_bound { result ≤ at + line_most }
 {
-    if nothing {
-        return put_end(line, at, p.records);
+    if bytes.is_empty() {
+        put_end(line, at, p.records)
+    } else {
+        put_fault(line, at, p.offset)
     }
-    put_fault(line, at, p.offset)
 }
 
 // ---- reading
@@ -87,10 +89,7 @@ pub fn body_length(head: &[u8]) -> usize
         return 0;
     }
     let len = length_at(head);
-    if len > 8192 {
-        return 0;
-    }
-    len
+    if len <= 8192 { len } else { 0 }
 }
 
 // Whether a whole record with its length field stands at the beginning of some bytes.
@@ -101,55 +100,32 @@ fn is_whole(s: &[u8]) -> bool
         return false;
     }
     let len = length_at(s);
-    if s.len() - 4 < len {
-        return false;
-    }
-    sheet_kinds::good_length(len, s[4])
+    len <= s.len() - 4 && sheet_kinds::good_length(len, s[4])
 }
 
 // Whether what was read of the version byte is 01.
 fn version_fits(version: &[u8]) -> bool
     ensures { result ≡ version_fits version.now }
 {
-    if version.len() != 1 {
-        return false;
-    }
-    version[0] == 1
-}
-
-// ---- progress
-
-// Behind the last line.
-pub fn stop(p: Progress) -> Progress
-    ensures { result ≡ halted p }
-{
-    Progress {
-        records: p.records,
-        offset: p.offset,
-        more: false,
-    }
-}
-
-// Behind a record of so many bytes.
-fn advance(p: Progress, len: usize) -> Progress
-    requires { (p.records ≤ p.offset) × (p.offset < limit) × (len ≤ 8192) }
-    ensures { result ≡ advanced p len }
-{
-    Progress {
-        records: p.records + 1,
-        offset: p.offset + 4 + len as u64,
-        more: true,
-    }
-}
-
-// Whether there is another turn.
-pub fn goes_on(p: Progress) -> bool
-    ensures { result ≡ goes_on p }
-{
-    p.more & (p.offset < 9223372036854775808)
+    version.len() == 1 && version[0] == 1
 }
 
 // ---- turns
+
+// Cards of fewer bytes are read to their end.
+const LIMIT: u64 = 1 << 63;
+
+// Behind a record of so many bytes, where the card is read further.
+fn advance(p: Progress, len: usize) -> Option<Progress>
+    requires { (p.records ≤ p.offset) × (p.offset < limit) × (len ≤ 8192) }
+    ensures { result ≡ going (advanced p len) }
+{
+    let offset = p.offset + 4 + len as u64;
+    (offset < LIMIT).then_some(Progress {
+        records: p.records + 1,
+        offset,
+    })
+}
 
 // The beginning of a card, by what was read of the version byte: where that is wrong, puts a fault's line behind the first `at` bytes of a lent buffer.
 pub fn begin(version: &[u8], line: &mut [u8], at: usize) -> Turned
@@ -159,57 +135,29 @@ pub fn begin(version: &[u8], line: &mut [u8], at: usize) -> Turned
     ensures next_value { result.next ≡ started (version_fits version.now) }
 {
     let fits = version_fits(version);
-    let next = Progress {
+    let end = if fits { at } else { put_fault(line, at, 0) };
+    let next = fits.then_some(Progress {
         records: 0,
         offset: 1,
-        more: fits,
-    };
-    if fits {
-        return Turned { end: at, next };
-    }
-    Turned {
-        end: put_fault(line, at, 0),
-        next,
-    }
+    });
+    Turned { end, next }
 }
 
 // One turn on the bytes that were read for it: a record with its length field, or what there was of one. Puts a line behind the first `at` bytes of a
-// lent buffer. A line has at most `line_most` bytes. The scratch has room for 512 votes, and is zeros before and after.
-pub fn turn(
-    bytes: &[u8],
-    refs: &mut [u32],
-    postings: &mut [u32],
-    stopped: &mut [u32],
-    scratch: &mut [i64],
-    line: &mut [u8],
-    at: usize,
-    p: Progress,
-) -> Turned
-    requires line_most_in_bounds { (at + line_most ≤ length line.old) × (p.records ≤ p.offset) × (p.offset < limit) }
-    requires scratch_value { scratch.old ≡ zero_scratch }
-    ensures put { Put line.old line.new at result.end (turn_of (words refs.old postings.old stopped.old) p bytes.now).line }
+// lent buffer. A line has at most `line_most` bytes.
+pub fn turn(bytes: &[u8], memory: &mut Memory, line: &mut [u8], at: usize, p: Progress) -> Turned
+    requires { (at + line_most ≤ length line.old) × (p.records ≤ p.offset) × (p.offset < limit) }
+    ensures put { Put line.old line.new at result.end (turn_of (store_of memory.old) p bytes.now).line }
     ensures end_bound { result.end ≤ at + line_most }
-    ensures stopped_value { words refs.new postings.new stopped.new ≡ (turn_of (words refs.old postings.old stopped.old) p bytes.now).store }
-    ensures next_value { result.next ≡ (turn_of (words refs.old postings.old stopped.old) p bytes.now).next }
-    ensures scratch_after { scratch.new ≡ zero_scratch }
+    ensures store_value { store_of memory.new ≡ (turn_of (store_of memory.old) p bytes.now).store }
+    ensures next_value { result.next ≡ (turn_of (store_of memory.old) p bytes.now).next }
 {
     if !is_whole(bytes) {
-        return Turned {
-            end: put_last(line, at, p, bytes.len() == 0),
-            next: stop(p),
-        };
+        let end = put_last(line, at, p, bytes);
+        return Turned { end, next: None };
     }
     let len = length_at(bytes);
-    let behind = 4 + len;
-    let end = sheet_records::step(
-        &bytes[4..behind],
-        refs,
-        postings,
-        stopped,
-        scratch,
-        line,
-        at,
-    );
+    let end = memory.step(&bytes[4..4 + len], line, at);
     Turned {
         end,
         next: advance(p, len),
@@ -218,34 +166,16 @@ pub fn turn(
 
 // ---- the buffers
 
-// R 32.
-const REFERENCES: usize = rows::HEAD_WIDTH + 32 * rows::ROW_WIDTH;
-
-pub fn zero_references() -> [u32; REFERENCES]
-    ensures { result ≡ empty_store.references }
+// "Its buffers begin zeroed"
+pub fn empty_memory() -> Memory
+    ensures { store_of result ≡ empty_store }
 {
-    [0; REFERENCES]
-}
-
-// P 1,024.
-pub fn zero_postings() -> [u32; 3072]
-    ensures { result ≡ empty_store.postings }
-{
-    [0; 3072]
-}
-
-// K 256.
-pub fn zero_stopped() -> [u32; 256]
-    ensures { result ≡ empty_store.stopped }
-{
-    [0; 256]
-}
-
-// Scratch for 512 votes.
-pub fn zero_scratch() -> [i64; 3072]
-    ensures { result ≡ zero_scratch }
-{
-    [0; 3072]
+    Memory {
+        references: [0; sheet_records::REFERENCES],
+        postings: [0; sheet_records::POSTINGS],
+        stopped: [0; sheet_records::STOPPED],
+        scratch: [0; sheet_records::SCRATCH],
+    }
 }
 
 // ---- a card that is held in memory
@@ -253,31 +183,19 @@ pub fn zero_scratch() -> [i64; 3072]
 // The lines of the turns that are left of a card, behind the first `at` bytes of a lent buffer. Yields where they end.
 fn put_turns(
     card: &[u8],
-    refs: &mut [u32],
-    postings: &mut [u32],
-    stopped: &mut [u32],
-    scratch: &mut [i64],
+    memory: &mut Memory,
     out: &mut [u8],
     at: usize,
-    p: Progress,
+    start: Option<Progress>,
 ) -> usize
-    requires { Going card.now out.old p at × (scratch.old ≡ zero_scratch) }
-    ensures { Put out.old out.new at result (remains card.now (words refs.old postings.old stopped.old) p) }
+    requires { Going card.now out.old start at }
+    ensures { Put out.old out.new at result (remains card.now (store_of memory.old) start) }
 {
     let mut end = at;
-    let mut next = p;
-    while goes_on(next) {
-        let from = next.offset as usize;
-        let t = turn(
-            &card[from..],
-            refs,
-            postings,
-            stopped,
-            scratch,
-            out,
-            end,
-            next,
-        );
+    let mut next = start;
+    while let Some(p) = next {
+        let from = p.offset as usize;
+        let t = turn(&card[from..], memory, out, end, p);
         end = t.end;
         next = t.next;
     }
@@ -300,21 +218,9 @@ pub fn sheet_of(card: &[u8], out: &mut [u8]) -> usize
     if !has_room(card, out) {
         return 0;
     }
-    let mut refs = zero_references();
-    let mut postings = zero_postings();
-    let mut stopped = zero_stopped();
-    let mut scratch = zero_scratch();
+    let mut memory = empty_memory();
     let head = put_header(out);
-    let n = maps::smaller(card.len() as u64, 1) as usize;
+    let n = card.len().min(1);
     let s = begin(&card[..n], out, head);
-    put_turns(
-        card,
-        &mut refs,
-        &mut postings,
-        &mut stopped,
-        &mut scratch,
-        out,
-        s.end,
-        s.next,
-    )
+    put_turns(card, &mut memory, out, s.end, s.next)
 }

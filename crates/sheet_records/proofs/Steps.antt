@@ -9,12 +9,16 @@ use Rattle.model.specs.Calls.{Answer, built, stored, removed, count, best, nothi
 use Rattle.model.specs.Words.{Words}
 use Rattle.query_rank.specs.Answers.{scratch_after}
 use Rattle.wang_judge.specs.declared.WangMatchConfig.{WangMatchConfig}
-use Rattle.wang_judge.specs.Scheme.{query_with}
+use Rattle.wang_judge.specs.Scheme.{wang, query_with}
 use Rattle.sheet_lines.specs.Lines.{answer_line}
 use Rattle.sheet_text.specs.Bytes.{fields_of}
 use Rattle.sheet_text.specs.Put.{line_most, Put}
 use Rattle.sheet_records.specs.Step.{line_and_store, step_by, step_of, Stepped}
-use Rattle.sheet_kinds.specs.Kinds.{scratch_words, zero_scratch, kind_of}
+use Rattle.sheet_kinds.specs.Kinds.{Kind, scratch_words, zero_scratch, kind_of}
+use Rattle.sheet_text.proofs.Puts as puts
+use Rattle.model.specs.Run.{run}
+use native.Mathlib.Omega.{arith}
+use mathlib.Core.Option.{none, some}
 
 -- ---- what a call leaves
 
@@ -51,11 +55,15 @@ still-zeros (refused k) s e = e
 
 -- ---- the step
 
--- by the kind byte
-pub step-at : (m : Words) (ws : List ℕ) (b c : ℕ) → b ≡ c → step_by m ws (kind_of c) ≡ step_by m ws (kind_of b)
-step-at m ws b c e = ap (λ (x : ℕ). step_by m ws (kind_of x)) (sym e)
-
--- by the record's bytes
-pub step-of : (m : Words) (bytes ws : List ℕ) → ws ≡ fields_of bytes → step_by m ws (kind_of (get_or bytes 0 0)) ≡ step_of m bytes
+-- of a record of a kind
+pub step-of : (m : Words) (bytes ws : List ℕ) (k : Kind) → ws ≡ fields_of bytes → kind_of (get_or bytes 0 0) ≡ some k
+    → line_and_store ws (run wang m (k.call ws)) ≡ step_of m bytes
 unfolding step_of
-step-of m bytes ws e = ap (λ (l : List ℕ). step_by m l (kind_of (get_or bytes 0 0))) e
+step-of m bytes ws k e f =
+    ap (λ (l : List ℕ). step_by m l (some k)) e ∙ sym (ap (step_by m (fields_of bytes)) f)
+
+-- of a byte that no kind has
+pub no_step : (l bytes : List ℕ) (at : ℕ) (m : Words) → kind_of (get_or bytes 0 0) ≡ none → Stepped l l at at m (step_of m bytes)
+unfolding step_of
+no_step l bytes at m e =
+    stepped-as (record { line = puts.nothing l at; short = omega arith; store = refl }) (sym (ap (step_by m (fields_of bytes)) e))

@@ -1,2 +1,3 @@
 -- The step on one record of a card.
 pub mod Step
+pub mod Memory

@@ -1,16 +1,18 @@
 -- A turn leaves fewer bytes until the limit, and no more records than bytes. Assumes nothing.
-use Rattle.std.proofs.Common.{sym, ◌∙◌, arith}
+use Rattle.std.proofs.Common.{arith}
 use Rattle.sheet.proofs.Reading.{taken_next}
 use Rattle.sheet.proofs.run.Goals as goal
 
-pub loop-streams-smaller : goal.loop-streams-smaller
-loop-streams-smaller c =
-    (taken_next c.take_turn-p.ensures.turn_taken c.loop-streams.invariant.counts (sym c.goes_on.ensures ∙ c.loop-streams-test.true)).less
+pub loop-next-smaller : goal.loop-next-smaller
+loop-next-smaller c =
+    let k = rw c.in-Some.is at c.loop-next.invariant.counted in
+    rw c.in-Some.is (taken_next c.in-Some.p k.0 k.1 c.in_ok-next-2.was c.take_turn.ensures).less
 
-pub loop-streams-preserved : goal.loop-streams-preserved
-loop-streams-preserved c = record {
-  scratch = c.take_turn-p.ensures.scratch_after;
-  bytes = omega arith;
-  line = omega arith;
-  counts = (taken_next c.take_turn-p.ensures.turn_taken c.loop-streams.invariant.counts (sym c.goes_on.ensures ∙ c.loop-streams-test.true)).counts;
-}
+pub loop-next-preserved : goal.loop-next-preserved
+loop-next-preserved c =
+    let k = rw c.in-Some.is at c.loop-next.invariant.counted in
+    record {
+      bytes = omega arith;
+      line = omega arith;
+      counted = (taken_next c.in-Some.p k.0 k.1 c.in_ok-next-2.was c.take_turn.ensures).counted;
+    }
