@@ -1,7 +1,6 @@
 -- What a build's hashes have to be has at most one proof, so that it may be read from a ghost field. Assumes nothing.
 use mathlib.Core.Logic.{∥∥₁_elim}
 use mathlib.Core.List.{List, [], ◌∷◌}
-use Prim.{hlevel}
 use Prim.Native.Nat.{ℕ, ◌≤◌}
 use Rattle.std.proofs.Props.{props}
 use Rattle.lists.specs.Lists.{All}
