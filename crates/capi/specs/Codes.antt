@@ -1,13 +1,12 @@
 -- How the C interface writes floats, tests, orders and results as words. Definitions only. Assumes nothing.
-use Rattle.std.specs.Prelude.{ℕ, ◌-◌, ◌^◌, Bool, true, false, cond, ◌&&◌, List, [], ◌∷◌, ℤ, pos, negsuc, from_bits, nat_le, to_bits, Float}
+use Rattle.std.specs.Prelude.{Option, Some, None, ℕ, ◌-◌, ◌^◌, Bool, true, false, cond, ◌&&◌, List, [], ◌∷◌, ℤ, pos, negsuc, from_bits, nat_le, to_bits, Float}
 use Rattle.std.specs.Float.{binary32, binary64}
 use Rattle.std.specs.Float.Ieee.{le}
 use Rattle.floats.specs.Words.{nan_word}
 use Rattle.floats.specs.Rounding.{narrow}
-use Rattle.matching.specs.declared.TriedOffset.{TriedOffset}
-use Rattle.matching.specs.declared.TriedOffset.TheVariants.{Nothing, Offset}
-use Rattle.matching.specs.declared.Ordering.{Ordering}
-use Rattle.matching.specs.declared.Ordering.TheVariants.{Less, Equal, Greater}
+use Rattle.std.specs.declared.cmp.Ordering.{Ordering}
+use Rattle.std.specs.declared.cmp.Ordering.TheVariants.{Less, Equal, Greater}
+use Rattle.matching.specs.declared.TimeOffset.{TimeOffset}
 use Rattle.matching.specs.Results.{compare_desc, then_by}
 use Rattle.matching.specs.Scores.{wang_prominence}
 use Rattle.matching.specs.Scales.{half, two, per_bin, bin_centre, time_scale}
@@ -50,9 +49,9 @@ abbrev pub time_scale_code : Float → Float → ℕ → ℕ → ℕ
 time_scale_code min max bins bin = to_bits binary32 (time_scale (bin_centre min (per_bin min max bins) bin))
 
 -- an offset that was tried: whether there is one, its frames, its milliseconds
-abbrev pub tried_words : TriedOffset → List ℤ
-tried_words Nothing = pos 0 ∷ pos 0 ∷ pos 0 ∷ []
-tried_words (Offset t) = pos 1 ∷ t.frames ∷ t.ms ∷ []
+abbrev pub tried_words : Option TimeOffset → List ℤ
+tried_words None = pos 0 ∷ pos 0 ∷ pos 0 ∷ []
+tried_words (Some t) = pos 1 ∷ t.frames ∷ t.ms ∷ []
 
 -- `MatchResult::NONE`: the time scale is 1.0, all else is 0
 abbrev pub no_match_words : List ℕ

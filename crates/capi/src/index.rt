@@ -1,7 +1,8 @@
-// The calls of the two indexes. The answer's first word is the case, the others its values, unused ones 0. Each contract is one equation: those words, with
-// the store and a query's scratch at exit, are what `run` says of the call.
+// The calls of an index. The answer's first word is the case, the others its values, unused ones 0. Each contract is one equation: those words, with the
+// store and a query's scratch at exit, are what `run` says of the call.
 ghost use Rattle.std.specs.Prelude.{◌≡◌, length};
-ghost use Rattle.model.specs.Calls.{build, insert, remove, replace, live_count, query};
+ghost use Rattle.refusals.specs.Numbers.{number_of};
+ghost use Rattle.model.specs.Calls.{build, insert, remove, replace, live_count, query, refused};
 ghost use Rattle.model.specs.Run.{run};
 ghost use Rattle.soundness.specs.Scan.{lent, words};
 ghost use Rattle.build.specs.Answers.{building_answer};
@@ -10,113 +11,96 @@ ghost use Rattle.remove.specs.Answers.{count_answer, removal_answer};
 ghost use Rattle.query_rank.specs.Answers.{finding_answer};
 ghost use Rattle.wang_judge.specs.Scheme.{wang};
 ghost use Rattle.panako_judge.specs.Scheme.{panako};
-ghost use Rattle.capi.specs.Answers.{best_words, answer_words, in_words, in_words_with, wang_asked, panako_config, panako_asked};
+ghost use Rattle.capi.specs.Codes.{single};
+ghost use Rattle.capi.specs.Answers.{case_words, best_words, answer_words, in_words, in_words_with, wang_asked, panako_config, panako_asked};
 
-use build::Building;
-use insert::Insertion;
-use matching::MatchResult;
+use index::Index;
 use panako::PanakoIndex;
 use panako_vote::PanakoMatchConfig;
-use query_rank::Finding;
-use remove::{LiveCount, Removal};
+use query_rank::Found;
+use refusals::Refusal;
 use wang::WangIndex;
 
 // ---- answers as words
 
-fn put_building(answer: &mut [u64; 8], r: Building)
-    ensures { answer.new ≡ answer_words (building_answer r) }
+fn case_of(case: u64, value: u64) -> [u64; 8]
+    ensures { result ≡ case_words case value }
+{
+    [case, value, 0, 0, 0, 0, 0, 0]
+}
+
+fn refusal_words(refusal: Refusal) -> [u64; 8]
+    ensures { result ≡ answer_words (refused (number_of refusal)) }
+{
+    case_of(6, u64::from(refusal.number()))
+}
+
+fn building_words(r: Result<(), Refusal>) -> [u64; 8]
+    ensures { result ≡ answer_words (building_answer r) }
 {
     match r {
-        Building::Refused(n) => {
-            *answer = [6, n as u64, 0, 0, 0, 0, 0, 0];
-        }
-        Building::Built => {
-            *answer = [0, 0, 0, 0, 0, 0, 0, 0];
-        }
+        Ok(()) => case_of(0, 0),
+        Err(refusal) => refusal_words(refusal),
     }
 }
 
-fn put_insertion(answer: &mut [u64; 8], r: Insertion)
-    ensures { answer.new ≡ answer_words (insertion_answer r) }
+fn insertion_words(r: Result<u32, Refusal>) -> [u64; 8]
+    ensures { result ≡ answer_words (insertion_answer r) }
 {
     match r {
-        Insertion::Refused(n) => {
-            *answer = [6, n as u64, 0, 0, 0, 0, 0, 0];
-        }
-        Insertion::Stored(id) => {
-            *answer = [1, id as u64, 0, 0, 0, 0, 0, 0];
-        }
+        Ok(id) => case_of(1, u64::from(id)),
+        Err(refusal) => refusal_words(refusal),
     }
 }
 
-fn put_removal(answer: &mut [u64; 8], r: Removal)
-    ensures { answer.new ≡ answer_words (removal_answer r) }
+fn removal_words(r: Result<bool, Refusal>) -> [u64; 8]
+    ensures { result ≡ answer_words (removal_answer r) }
 {
     match r {
-        Removal::Refused(n) => {
-            *answer = [6, n as u64, 0, 0, 0, 0, 0, 0];
-        }
-        Removal::Removed(b) => {
-            let yes = crate::flag_of(b) as u64;
-            *answer = [2, yes, 0, 0, 0, 0, 0, 0];
-        }
+        Ok(was_live) => case_of(2, u64::from(crate::flag_of(was_live))),
+        Err(refusal) => refusal_words(refusal),
     }
 }
 
-fn put_count(answer: &mut [u64; 8], r: LiveCount)
-    ensures { answer.new ≡ answer_words (count_answer r) }
+fn count_words(r: Result<u32, Refusal>) -> [u64; 8]
+    ensures { result ≡ answer_words (count_answer r) }
 {
     match r {
-        LiveCount::Refused(n) => {
-            *answer = [6, n as u64, 0, 0, 0, 0, 0, 0];
-        }
-        LiveCount::Count(n) => {
-            *answer = [3, n as u64, 0, 0, 0, 0, 0, 0];
-        }
+        Ok(n) => case_of(3, u64::from(n)),
+        Err(refusal) => refusal_words(refusal),
     }
 }
 
 // The result of a recording.
-fn put_best(answer: &mut [u64; 8], id: u32, m: MatchResult)
-    ensures { answer.new ≡ best_words id m }
+fn best(found: Found) -> [u64; 8]
+    ensures { result ≡ best_words found.id found.result }
 {
-    let offset = m.offset;
-    let frames = crate::word_of(offset.frames);
-    let ms = crate::word_of(offset.ms);
-    let score = floats::f32_to_bits(m.score) as u64;
-    let prominence = floats::f32_to_bits(m.prominence) as u64;
-    let scale = floats::f32_to_bits(m.time_scale) as u64;
-    *answer = [
+    let m = found.result;
+    [
         4,
-        id as u64,
-        m.votes as u64,
-        score,
-        prominence,
-        frames,
-        ms,
-        scale,
-    ];
+        u64::from(found.id),
+        u64::from(m.votes),
+        u64::from(floats::f32_to_bits(m.score)),
+        u64::from(floats::f32_to_bits(m.prominence)),
+        crate::word_of(m.offset.frames),
+        crate::word_of(m.offset.ms),
+        u64::from(floats::f32_to_bits(m.time_scale)),
+    ]
 }
 
-fn put_finding(answer: &mut [u64; 8], r: Finding)
-    ensures { answer.new ≡ answer_words (finding_answer r) }
+fn finding_words(r: Result<Option<Found>, Refusal>) -> [u64; 8]
+    ensures { result ≡ answer_words (finding_answer r) }
 {
     match r {
-        Finding::Refused(n) => {
-            *answer = [6, n as u64, 0, 0, 0, 0, 0, 0];
-        }
-        Finding::Nothing => {
-            *answer = [5, 0, 0, 0, 0, 0, 0, 0];
-        }
-        Finding::Best(id, m) => {
-            put_best(answer, id, m);
-        }
+        Ok(Some(found)) => best(found),
+        Ok(None) => case_of(5, 0),
+        Err(refusal) => refusal_words(refusal),
     }
 }
 
 // ---- the calls
 
-pub fn wang_index_build(
+pub fn build<I: Index>(
     refs: &mut [u32],
     postings: &mut [u32],
     stopped: &mut [u32],
@@ -128,16 +112,15 @@ pub fn wang_index_build(
     answer: &mut [u64; 8],
 )
     ensures { (answer.new, words refs.new postings.new stopped.new)
-        ≡ in_words (run wang (words refs.old postings.old stopped.old)
+        ≡ in_words (run I.scheme (words refs.old postings.old stopped.old)
         (build limit hashes.now lengths.now rates.now sets.now)) }
 {
-    put_building(
-        answer,
-        WangIndex::build(refs, postings, stopped, hashes, lengths, rates, limit, sets),
-    );
+    *answer = building_words(I::build(
+        refs, postings, stopped, hashes, lengths, rates, limit, sets,
+    ));
 }
 
-pub fn wang_index_insert(
+pub fn insert<I: Index>(
     refs: &mut [u32],
     postings: &mut [u32],
     stopped: &mut [u32],
@@ -148,15 +131,12 @@ pub fn wang_index_insert(
     answer: &mut [u64; 8],
 )
     ensures { (answer.new, words refs.new postings.new stopped.new)
-        ≡ in_words (run wang (words refs.old postings.old stopped.old) (insert limit rate set hashes.now)) }
+        ≡ in_words (run I.scheme (words refs.old postings.old stopped.old) (insert limit rate set hashes.now)) }
 {
-    put_insertion(
-        answer,
-        WangIndex::insert(refs, postings, stopped, hashes, rate, limit, set),
-    );
+    *answer = insertion_words(I::insert(refs, postings, stopped, hashes, rate, limit, set));
 }
 
-pub fn wang_index_remove(
+pub fn remove<I: Index>(
     refs: &mut [u32],
     postings: &mut [u32],
     stopped: &mut [u32],
@@ -164,12 +144,12 @@ pub fn wang_index_remove(
     answer: &mut [u64; 8],
 )
     ensures { (answer.new, words refs.new postings.new stopped.new)
-        ≡ in_words (run wang (words refs.old postings.old stopped.old) (remove id)) }
+        ≡ in_words (run I.scheme (words refs.old postings.old stopped.old) (remove id)) }
 {
-    put_removal(answer, WangIndex::remove(refs, postings, stopped, id));
+    *answer = removal_words(I::remove(refs, postings, stopped, id));
 }
 
-pub fn wang_index_replace(
+pub fn replace<I: Index>(
     refs: &mut [u32],
     postings: &mut [u32],
     stopped: &mut [u32],
@@ -180,21 +160,38 @@ pub fn wang_index_replace(
     answer: &mut [u64; 8],
 )
     ensures { (answer.new, words refs.new postings.new stopped.new)
-        ≡ in_words (run wang (words refs.old postings.old stopped.old) (replace id limit rate hashes.now)) }
+        ≡ in_words (run I.scheme (words refs.old postings.old stopped.old) (replace id limit rate hashes.now)) }
 {
-    put_insertion(
-        answer,
-        WangIndex::replace(refs, postings, stopped, id, hashes, rate, limit),
-    );
+    *answer = insertion_words(I::replace(refs, postings, stopped, id, hashes, rate, limit));
 }
 
-pub fn wang_index_live_count(refs: &[u32], postings: &[u32], stopped: &[u32], answer: &mut [u64; 8])
+pub fn live_count<I: Index>(refs: &[u32], postings: &[u32], stopped: &[u32], answer: &mut [u64; 8])
     ensures { (answer.new, lent refs.entry postings.entry stopped.entry)
-        ≡ in_words (run wang (lent refs.entry postings.entry stopped.entry) live_count) }
+        ≡ in_words (run I.scheme (lent refs.entry postings.entry stopped.entry) live_count) }
 {
-    put_count(answer, WangIndex::live_count(refs, postings, stopped));
+    *answer = count_words(I::live_count(refs, postings, stopped));
 }
 
+fn query<I: Index>(
+    refs: &[u32],
+    postings: &[u32],
+    stopped: &[u32],
+    scratch: &mut [i64],
+    hashes: &[u32],
+    rate: u32,
+    cfg: I::Config,
+    set: u32,
+    answer: &mut [u64; 8],
+)
+    ensures { (answer.new, (lent refs.entry postings.entry stopped.entry, scratch.new))
+        ≡ in_words_with scratch.old (run I.scheme (lent refs.entry postings.entry stopped.entry)
+        (query (I.asked cfg (single rate) set hashes.now (length scratch.old)))) }
+{
+    let fps = floats::f32_from_bits(rate);
+    *answer = finding_words(I::query(refs, postings, stopped, scratch, hashes, fps, cfg, set));
+}
+
+// A query's settings by their words.
 pub fn wang_index_query(
     refs: &[u32],
     postings: &[u32],
@@ -214,95 +211,9 @@ pub fn wang_index_query(
         (query (wang_asked hashes.now rate tolerance min_votes min_score min_prominence set (length scratch.old)))) }
 {
     let cfg = wang_judge::config_of(tolerance, min_votes, min_score, min_prominence);
-    let fps = floats::f32_from_bits(rate);
-    put_finding(
-        answer,
-        WangIndex::query(refs, postings, stopped, scratch, hashes, fps, cfg, set),
+    query::<WangIndex>(
+        refs, postings, stopped, scratch, hashes, rate, cfg, set, answer,
     );
-}
-
-pub fn panako_index_build(
-    refs: &mut [u32],
-    postings: &mut [u32],
-    stopped: &mut [u32],
-    hashes: &[u32],
-    lengths: &[u32],
-    rates: &[u32],
-    limit: u32,
-    sets: &[u32],
-    answer: &mut [u64; 8],
-)
-    ensures { (answer.new, words refs.new postings.new stopped.new)
-        ≡ in_words (run panako (words refs.old postings.old stopped.old)
-        (build limit hashes.now lengths.now rates.now sets.now)) }
-{
-    put_building(
-        answer,
-        PanakoIndex::build(refs, postings, stopped, hashes, lengths, rates, limit, sets),
-    );
-}
-
-pub fn panako_index_insert(
-    refs: &mut [u32],
-    postings: &mut [u32],
-    stopped: &mut [u32],
-    hashes: &[u32],
-    rate: u32,
-    limit: u32,
-    set: u32,
-    answer: &mut [u64; 8],
-)
-    ensures { (answer.new, words refs.new postings.new stopped.new)
-        ≡ in_words (run panako (words refs.old postings.old stopped.old) (insert limit rate set hashes.now)) }
-{
-    put_insertion(
-        answer,
-        PanakoIndex::insert(refs, postings, stopped, hashes, rate, limit, set),
-    );
-}
-
-pub fn panako_index_remove(
-    refs: &mut [u32],
-    postings: &mut [u32],
-    stopped: &mut [u32],
-    id: u32,
-    answer: &mut [u64; 8],
-)
-    ensures { (answer.new, words refs.new postings.new stopped.new)
-        ≡ in_words (run panako (words refs.old postings.old stopped.old) (remove id)) }
-{
-    put_removal(answer, PanakoIndex::remove(refs, postings, stopped, id));
-}
-
-pub fn panako_index_replace(
-    refs: &mut [u32],
-    postings: &mut [u32],
-    stopped: &mut [u32],
-    id: u32,
-    hashes: &[u32],
-    rate: u32,
-    limit: u32,
-    answer: &mut [u64; 8],
-)
-    ensures { (answer.new, words refs.new postings.new stopped.new)
-        ≡ in_words (run panako (words refs.old postings.old stopped.old) (replace id limit rate hashes.now)) }
-{
-    put_insertion(
-        answer,
-        PanakoIndex::replace(refs, postings, stopped, id, hashes, rate, limit),
-    );
-}
-
-pub fn panako_index_live_count(
-    refs: &[u32],
-    postings: &[u32],
-    stopped: &[u32],
-    answer: &mut [u64; 8],
-)
-    ensures { (answer.new, lent refs.entry postings.entry stopped.entry)
-        ≡ in_words (run panako (lent refs.entry postings.entry stopped.entry) live_count) }
-{
-    put_count(answer, PanakoIndex::live_count(refs, postings, stopped));
 }
 
 // Settings from words, the floats by their bits.
@@ -359,9 +270,7 @@ pub fn panako_index_query(
         min_score,
         min_prominence,
     );
-    let fps = floats::f32_from_bits(rate);
-    put_finding(
-        answer,
-        PanakoIndex::query(refs, postings, stopped, scratch, hashes, fps, cfg, set),
+    query::<PanakoIndex>(
+        refs, postings, stopped, scratch, hashes, rate, cfg, set, answer,
     );
 }

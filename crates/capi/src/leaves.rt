@@ -10,9 +10,9 @@ ghost use Rattle.capi.specs.Codes.{flag};
 ghost use Rattle.capi.specs.Answers.{panako_config};
 ghost use Rattle.capi.specs.Leaves.{room_for, mode_words, peak_words, hough_words, vote_words, settings_words};
 
-use consolidate::{CheckedMode, CheckedPeak, Mode};
-use hough::CheckedAnswer;
-use panako_vote::CheckedVote;
+use panako_vote::Span;
+
+const REFUSED: [u64; 8] = [0; 8];
 
 // Sorts the first n words, with the next n as room, and says 1. Without that room it says 0, and
 // nothing is changed. What the room holds afterwards is left open.
@@ -22,31 +22,22 @@ pub fn sorting_sort_words(words: &mut [i64], n: usize) -> u32
         × (drop (n + n) words.new ≡ drop (n + n) words.old) }
     ensures unchanged { room_for n words.old ≡ false → words.new ≡ words.old }
 {
-    if n <= words.len() / 2 {
-        sorting::sort_words(words, n);
-        return 1;
+    if n > words.len() / 2 {
+        return 0;
     }
-    0
+    sorting::sort_words(words, n);
+    1
 }
 
 // 1: no count is positive; 2: the mode.
 pub fn consolidate_mode_offset(bins: &[i64], answer: &mut [u64; 8])
     ensures { answer.new ≡ mode_words (checked_mode bins.now (length bins.now / 2)) }
 {
-    match consolidate::checked_mode_offset(bins, bins.len() / 2) {
-        CheckedMode::Refused => {
-            *answer = [0, 0, 0, 0, 0, 0, 0, 0];
-        }
-        CheckedMode::Found(m) => match m {
-            Mode::Nothing => {
-                *answer = [1, 0, 0, 0, 0, 0, 0, 0];
-            }
-            Mode::Offset(d) => {
-                let mode = crate::word_of(d);
-                *answer = [2, mode, 0, 0, 0, 0, 0, 0];
-            }
-        },
-    }
+    *answer = match consolidate::checked_mode_offset(bins, bins.len() / 2) {
+        None => REFUSED,
+        Some(None) => [1, 0, 0, 0, 0, 0, 0, 0],
+        Some(Some(d)) => [2, crate::word_of(d), 0, 0, 0, 0, 0, 0],
+    };
 }
 
 // 1: peak, centre, mode, total.
@@ -59,16 +50,14 @@ pub fn consolidate_sparse_wang_box_peak(
 )
     ensures { answer.new ≡ peak_words (checked_peak bins.now (length bins.now / 2) tol low high) }
 {
-    match consolidate::checked_box_peak(bins, bins.len() / 2, tol, low, high) {
-        CheckedPeak::Refused => {
-            *answer = [0, 0, 0, 0, 0, 0, 0, 0];
-        }
-        CheckedPeak::Found(p) => {
+    *answer = match consolidate::checked_box_peak(bins, bins.len() / 2, tol, low, high) {
+        None => REFUSED,
+        Some(p) => {
             let centre = crate::word_of(p.centre);
             let mode = crate::word_of(p.mode);
-            *answer = [1, p.votes, centre, mode, p.total, 0, 0, 0];
+            [1, p.votes, centre, mode, p.total, 0, 0, 0]
         }
-    }
+    };
 }
 
 // 1: peak, the index of its bin, its offset, its prominence. Of n bins, with the next n words for their
@@ -77,18 +66,16 @@ pub fn hough_panako_peak(words: &mut [i64], n: usize, tol: u64, answer: &mut [u6
     ensures answer_after { answer.new ≡ hough_words (checked_answer words.old n tol) }
     ensures left_after { LeftAfter (checked_answer words.old n tol) words.old words.new n tol }
 {
-    match hough::checked_hough(words, n, tol) {
-        CheckedAnswer::Refused => {
-            *answer = [0, 0, 0, 0, 0, 0, 0, 0];
-        }
-        CheckedAnswer::Found(a) => {
+    *answer = match hough::checked_hough(words, n, tol) {
+        None => REFUSED,
+        Some(a) => {
             let peak = a.peak;
             let at = peak.at as u64;
             let offset = crate::word_of(a.offset);
-            let prominence = floats::f32_to_bits(a.prominence) as u64;
-            *answer = [1, peak.votes, at, offset, prominence, 0, 0, 0];
+            let prominence = u64::from(floats::f32_to_bits(a.prominence));
+            [1, peak.votes, at, offset, prominence, 0, 0, 0]
         }
-    }
+    };
 }
 
 // Whether the settings that a vote depends on lie within the limits, then the scale ends and bins, all after `normalize_config`.
@@ -103,11 +90,16 @@ pub fn panako_normalize_config(
 {
     let cfg = crate::index::panako_config(scale_min, scale_max, scale_bins, tolerance, 0, 0, 0);
     let c = panako_vote::normalize_config(cfg);
-    let within = crate::flag_of(panako_vote::within_limits(c)) as u64;
-    let min = floats::f32_to_bits(c.scale_min) as u64;
-    let max = floats::f32_to_bits(c.scale_max) as u64;
-    let bins = c.scale_bins as u64;
-    *answer = [within, min, max, bins, 0, 0, 0, 0];
+    *answer = [
+        u64::from(panako_vote::within_limits(c)),
+        u64::from(floats::f32_to_bits(c.scale_min)),
+        u64::from(floats::f32_to_bits(c.scale_max)),
+        u64::from(c.scale_bins),
+        0,
+        0,
+        0,
+        0,
+    ];
 }
 
 // 1: no vote; 2: scale bin, offset.
@@ -124,16 +116,17 @@ pub fn panako_pair_vote(
     ensures { answer.new ≡ vote_words (checked_vote (panako_config scale_min scale_max scale_bins 0 0 0 0) q_anchor q_end r_anchor r_end) }
 {
     let cfg = crate::index::panako_config(scale_min, scale_max, scale_bins, 0, 0, 0, 0);
-    match panako_vote::checked_vote(cfg, q_anchor, q_end, r_anchor, r_end) {
-        CheckedVote::Refused => {
-            *answer = [0, 0, 0, 0, 0, 0, 0, 0];
-        }
-        CheckedVote::Nothing => {
-            *answer = [1, 0, 0, 0, 0, 0, 0, 0];
-        }
-        CheckedVote::At { bin, offset } => {
-            let place = crate::word_of(offset);
-            *answer = [2, bin as u64, place, 0, 0, 0, 0, 0];
-        }
-    }
+    let q = Span {
+        anchor: q_anchor,
+        end: q_end,
+    };
+    let r = Span {
+        anchor: r_anchor,
+        end: r_end,
+    };
+    *answer = match panako_vote::checked_vote(cfg, q, r) {
+        Err(_) => REFUSED,
+        Ok(None) => [1, 0, 0, 0, 0, 0, 0, 0],
+        Ok(Some(v)) => [2, u64::from(v.bin), crate::word_of(v.offset), 0, 0, 0, 0, 0],
+    };
 }

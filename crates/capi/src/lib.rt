@@ -15,23 +15,21 @@ ghost use Rattle.matching.specs.Rates.{rates_agree};
 ghost use Rattle.matching.specs.Scores.{clamp_score, below_threshold, score_of};
 ghost use Rattle.capi.specs.Codes.{single, double, flag, order_code, narrow_code, prominence_code, compare_code, time_scale_code, twos_complement, tried_words, no_match_words};
 
-use matching::{MatchResult, Ordering, TimeOffset, TriedOffset};
+use matching::{MatchResult, TimeOffset};
+use std::cmp::Ordering;
 
 // 1 or 0.
 fn flag_of(b: bool) -> u32
     ensures { result ≡ flag b }
 {
-    if b { 1 } else { 0 }
+    u32::from(b)
 }
 
 // A signed number as a word, in two's complement.
 fn word_of(x: i64) -> u64
     ensures { result ≡ twos_complement x }
 {
-    if x < 0 {
-        return 0xFFFF_FFFF_FFFF_FFFF - ((-1 - x) as u64);
-    }
-    x as u64
+    x.cast_unsigned()
 }
 
 pub fn floats_u64_to_f32(n: u64) -> u32
@@ -45,12 +43,11 @@ pub fn floats_f64_to_f32(x: u64) -> u32
     ensures { result ≡ narrow_code (double x) }
 {
     let v = floats::f64_from_bits(x);
-    if v >= 0.5 {
-        if v <= 2.0 {
-            return floats::f32_to_bits(floats::f64_to_f32(v));
-        }
+    if v >= 0.5 && v <= 2.0 {
+        floats::f32_to_bits(floats::f64_to_f32(v))
+    } else {
+        floats::NAN_BITS
     }
-    floats::NAN_BITS
 }
 
 pub fn floats_round_to_i64(x: u64) -> i64
@@ -98,24 +95,17 @@ pub fn matching_from_frames(frames: i64, rate: u32, answer: &mut [i64; 2])
     ensures { answer.new ≡ frames ∷ millis frames (single rate) ∷ [] }
 {
     let t = TimeOffset::from_frames(frames, floats::f32_from_bits(rate));
-    let ms = t.ms;
-    *answer = [frames, ms];
+    *answer = [frames, t.ms];
 }
 
 // 1, the frames, the milliseconds; zeros where there is no such time.
 pub fn matching_try_from_frames(frames: i64, rate: u32, answer: &mut [i64; 3])
     ensures { answer.new ≡ tried_words (try_from_frames frames (single rate)) }
 {
-    match TimeOffset::try_from_frames(frames, floats::f32_from_bits(rate)) {
-        TriedOffset::Nothing => {
-            *answer = [0, 0, 0];
-        }
-        TriedOffset::Offset(t) => {
-            let offset = t.frames;
-            let ms = t.ms;
-            *answer = [1, offset, ms];
-        }
-    }
+    *answer = match TimeOffset::try_from_frames(frames, floats::f32_from_bits(rate)) {
+        Some(t) => [1, t.frames, t.ms],
+        None => [0, 0, 0],
+    };
 }
 
 pub fn matching_frames_per_sec_compatible(a: u32, b: u32) -> u32
@@ -182,9 +172,10 @@ pub fn matching_wang_prominence(peak: u64, total: u64, width: u64) -> u32
     ensures { result ≡ prominence_code peak total width }
 {
     if peak <= total {
-        return floats::f32_to_bits(matching::wang_prominence(peak, total, width));
+        floats::f32_to_bits(matching::wang_prominence(peak, total, width))
+    } else {
+        floats::NAN_BITS
     }
-    floats::NAN_BITS
 }
 
 pub fn matching_score(n: u64, hashes: u64) -> u32
@@ -208,15 +199,14 @@ pub fn matching_none(answer: &mut [u64; 8])
     ensures { answer.new ≡ no_match_words }
 {
     let m = matching::no_match();
-    let offset = m.offset;
-    let is_match = flag_of(m.is_match) as u64;
-    let votes = m.votes as u64;
-    let score = floats::f32_to_bits(m.score) as u64;
-    let prominence = floats::f32_to_bits(m.prominence) as u64;
-    let frames = word_of(offset.frames);
-    let ms = word_of(offset.ms);
-    let time_scale = floats::f32_to_bits(m.time_scale) as u64;
     *answer = [
-        is_match, votes, score, prominence, frames, ms, time_scale, 0,
+        u64::from(m.is_match),
+        u64::from(m.votes),
+        u64::from(floats::f32_to_bits(m.score)),
+        u64::from(floats::f32_to_bits(m.prominence)),
+        word_of(m.offset.frames),
+        word_of(m.offset.ms),
+        u64::from(floats::f32_to_bits(m.time_scale)),
+        0,
     ];
 }

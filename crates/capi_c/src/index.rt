@@ -8,6 +8,9 @@ ghost use Rattle.wang_judge.specs.Scheme.{wang};
 ghost use Rattle.panako_judge.specs.Scheme.{panako};
 ghost use Rattle.capi.specs.Answers.{in_words, in_words_with, wang_asked, panako_asked};
 
+use panako::PanakoIndex;
+use wang::WangIndex;
+
 #[unsafe(no_mangle)]
 pub extern "C" fn wang_index_build(
     refs: &mut [u32],
@@ -24,7 +27,7 @@ pub extern "C" fn wang_index_build(
         ≡ in_words (run wang (words refs.old postings.old stopped.old)
         (build limit hashes.now lengths.now rates.now sets.now)) }
 {
-    capi::index::wang_index_build(
+    capi::index::build::<WangIndex>(
         refs, postings, stopped, hashes, lengths, rates, limit, sets, answer,
     );
 }
@@ -43,7 +46,7 @@ pub extern "C" fn wang_index_insert(
     ensures { (answer.new, words refs.new postings.new stopped.new)
         ≡ in_words (run wang (words refs.old postings.old stopped.old) (insert limit rate set hashes.now)) }
 {
-    capi::index::wang_index_insert(refs, postings, stopped, hashes, rate, limit, set, answer);
+    capi::index::insert::<WangIndex>(refs, postings, stopped, hashes, rate, limit, set, answer);
 }
 
 #[unsafe(no_mangle)]
@@ -57,7 +60,7 @@ pub extern "C" fn wang_index_remove(
     ensures { (answer.new, words refs.new postings.new stopped.new)
         ≡ in_words (run wang (words refs.old postings.old stopped.old) (remove id)) }
 {
-    capi::index::wang_index_remove(refs, postings, stopped, id, answer);
+    capi::index::remove::<WangIndex>(refs, postings, stopped, id, answer);
 }
 
 #[unsafe(no_mangle)]
@@ -74,7 +77,7 @@ pub extern "C" fn wang_index_replace(
     ensures { (answer.new, words refs.new postings.new stopped.new)
         ≡ in_words (run wang (words refs.old postings.old stopped.old) (replace id limit rate hashes.now)) }
 {
-    capi::index::wang_index_replace(refs, postings, stopped, id, hashes, rate, limit, answer);
+    capi::index::replace::<WangIndex>(refs, postings, stopped, id, hashes, rate, limit, answer);
 }
 
 #[unsafe(no_mangle)]
@@ -87,7 +90,7 @@ pub extern "C" fn wang_index_live_count(
     ensures { (answer.new, lent refs.entry postings.entry stopped.entry)
         ≡ in_words (run wang (lent refs.entry postings.entry stopped.entry) live_count) }
 {
-    capi::index::wang_index_live_count(refs, postings, stopped, answer);
+    capi::index::live_count::<WangIndex>(refs, postings, stopped, answer);
 }
 
 #[unsafe(no_mangle)]
@@ -141,7 +144,7 @@ pub extern "C" fn panako_index_build(
         ≡ in_words (run panako (words refs.old postings.old stopped.old)
         (build limit hashes.now lengths.now rates.now sets.now)) }
 {
-    capi::index::panako_index_build(
+    capi::index::build::<PanakoIndex>(
         refs, postings, stopped, hashes, lengths, rates, limit, sets, answer,
     );
 }
@@ -160,7 +163,7 @@ pub extern "C" fn panako_index_insert(
     ensures { (answer.new, words refs.new postings.new stopped.new)
         ≡ in_words (run panako (words refs.old postings.old stopped.old) (insert limit rate set hashes.now)) }
 {
-    capi::index::panako_index_insert(refs, postings, stopped, hashes, rate, limit, set, answer);
+    capi::index::insert::<PanakoIndex>(refs, postings, stopped, hashes, rate, limit, set, answer);
 }
 
 #[unsafe(no_mangle)]
@@ -174,7 +177,7 @@ pub extern "C" fn panako_index_remove(
     ensures { (answer.new, words refs.new postings.new stopped.new)
         ≡ in_words (run panako (words refs.old postings.old stopped.old) (remove id)) }
 {
-    capi::index::panako_index_remove(refs, postings, stopped, id, answer);
+    capi::index::remove::<PanakoIndex>(refs, postings, stopped, id, answer);
 }
 
 #[unsafe(no_mangle)]
@@ -191,7 +194,7 @@ pub extern "C" fn panako_index_replace(
     ensures { (answer.new, words refs.new postings.new stopped.new)
         ≡ in_words (run panako (words refs.old postings.old stopped.old) (replace id limit rate hashes.now)) }
 {
-    capi::index::panako_index_replace(refs, postings, stopped, id, hashes, rate, limit, answer);
+    capi::index::replace::<PanakoIndex>(refs, postings, stopped, id, hashes, rate, limit, answer);
 }
 
 #[unsafe(no_mangle)]
@@ -204,7 +207,7 @@ pub extern "C" fn panako_index_live_count(
     ensures { (answer.new, lent refs.entry postings.entry stopped.entry)
         ≡ in_words (run panako (lent refs.entry postings.entry stopped.entry) live_count) }
 {
-    capi::index::panako_index_live_count(refs, postings, stopped, answer);
+    capi::index::live_count::<PanakoIndex>(refs, postings, stopped, answer);
 }
 
 #[unsafe(no_mangle)]

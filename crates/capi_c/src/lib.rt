@@ -1,5 +1,6 @@
-// The C interface of the library, as C calls it: each function is the one of crate `capi` that has its name. Floats pass as their bit patterns, a NaN's
-// being 7FC00000 or 7FF8000000000000 (hexadecimal) where it is a result; a slice passes as a pointer and a length.
+// The C interface of the library, as C calls it: each function is the one of crate `capi` that has its name, and each call of an index the one of its
+// name's end at that index. Floats pass as their bit patterns, a NaN's being 7FC00000 or 7FF8000000000000 (hexadecimal) where it is a result; a slice
+// passes as a pointer and a length.
 #![tactic(auto)]
 
 mod index;

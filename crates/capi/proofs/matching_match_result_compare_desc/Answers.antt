@@ -2,7 +2,7 @@
 use Rattle.std.proofs.Common.{◌≡◌, ℕ}
 use lib.Ieee.{Float}
 use Rattle.matching.specs.declared.MatchResult.{MatchResult}
-use Rattle.matching.specs.declared.Ordering.{Ordering}
+use Rattle.std.specs.declared.cmp.Ordering.{Ordering}
 use Rattle.matching.specs.Results.{result_compare}
 use Rattle.capi.specs.Codes.{order_code, compare_code}
 use Rattle.capi.proofs.matching_match_result_compare_desc.Goals as goal
