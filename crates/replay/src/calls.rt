@@ -1,363 +1,352 @@
-// The calls of a line's words, of either index, on the lent store. Each answers whether the line has the call's fields, and of a query also
-// whether the scratch is then as it is to be.
-ghost use Rattle.std.specs.Prelude.{◌≤◌, length};
+// The calls of a line's words, of either index, on what is lent. A line that lacks the call's fields differs, and of a query also a scratch that is then not
+// as it is to be.
+ghost use Rattle.std.specs.Prelude.{◌≤◌};
 
-fn build_of(
-    is_wang: bool,
-    limit: u32,
-    hashes: &[u32],
-    lengths: &[u32],
-    rates: &[u32],
-    sets: &[u32],
-    refs: &mut [u32],
-    postings: &mut [u32],
-    stopped: &mut [u32],
-    answer: &mut [u64; 8],
-) {
-    if is_wang {
-        capi::index::wang_index_build(
-            refs, postings, stopped, hashes, lengths, rates, limit, sets, answer,
-        );
-        return;
+use crate::Stop;
+use index::Index;
+use panako::PanakoIndex;
+use replay_text::Contents;
+use wang::WangIndex;
+
+// Stores of at most 40 references, 512 entries of Panako and 64 stopped keys, scratch for 512 votes of Panako.
+const REFS: usize = rows::HEAD_WIDTH + 40 * rows::ROW_WIDTH;
+
+const POSTINGS: usize = 2560;
+
+const STOPPED: usize = 64;
+
+const SCRATCH: usize = 6144;
+
+#[derive(Clone, Copy)]
+pub enum Call {
+    Build,
+    Insert,
+    Remove,
+    Replace,
+    LiveCount,
+    Query,
+}
+
+// How many words of each slice of the store are lent.
+#[derive(Clone, Copy)]
+pub struct Lent {
+    refs: usize,
+    postings: usize,
+    stopped: usize,
+    ghost within: { (refs ≤ 204) × (postings ≤ 2560) × (stopped ≤ 64) },
+}
+
+impl Lent {
+    // None where the store has fewer.
+    pub fn new(refs: usize, postings: usize, stopped: usize) -> Option<Lent> {
+        if refs <= REFS && postings <= POSTINGS && stopped <= STOPPED {
+            Some(Lent {
+                refs,
+                postings,
+                stopped,
+            })
+        } else {
+            None
+        }
     }
-    capi::index::panako_index_build(
-        refs, postings, stopped, hashes, lengths, rates, limit, sets, answer,
+}
+
+// What is lent to the calls: the first words of the store's slices, the scratch, and the words of the last answer.
+#[derive(Drop)]
+pub struct Store {
+    refs: [u32; REFS],
+    postings: [u32; POSTINGS],
+    stopped: [u32; STOPPED],
+    scratch: [i64; SCRATCH],
+    answer: [u64; 8],
+}
+
+// An index whose queries have their settings in a line: rate, scale_min, scale_max, scale_bins, tolerance, min_votes, min_score, min_prominence, set.
+pub trait Replayed: Index {
+    fn ask(
+        refs: &[u32],
+        postings: &[u32],
+        stopped: &[u32],
+        scratch: &mut [i64],
+        settings: [u32; 9],
+        hashes: &[u32],
+        answer: &mut [u64; 8],
     );
 }
 
-// Limit, numbers of lengths, of rates and of sets, lengths, rates, sets, hashes.
-fn build(
-    is_wang: bool,
-    line: &[u32],
-    refs: &mut [u32],
-    postings: &mut [u32],
-    stopped: &mut [u32],
-    answer: &mut [u64; 8],
-) -> bool {
-    let size = line.len();
-    if size < 4 {
-        return false;
-    }
-    let limit = line[0];
-    let a = 4 + crate::count_of(line[1]);
-    let b = a + crate::count_of(line[2]);
-    let c = b + crate::count_of(line[3]);
-    if c > size {
-        return false;
-    }
-    build_of(
-        is_wang,
-        limit,
-        &line[c..],
-        &line[4..a],
-        &line[a..b],
-        &line[b..c],
-        refs,
-        postings,
-        stopped,
-        answer,
-    );
-    true
-}
-
-// Limit, rate, set, hashes.
-fn insert(
-    is_wang: bool,
-    line: &[u32],
-    refs: &mut [u32],
-    postings: &mut [u32],
-    stopped: &mut [u32],
-    answer: &mut [u64; 8],
-) -> bool {
-    if line.len() < 3 {
-        return false;
-    }
-    let limit = line[0];
-    let rate = line[1];
-    let set = line[2];
-    if is_wang {
-        capi::index::wang_index_insert(
+// Wang has no use for the scales.
+impl Replayed for WangIndex {
+    fn ask(
+        refs: &[u32],
+        postings: &[u32],
+        stopped: &[u32],
+        scratch: &mut [i64],
+        settings: [u32; 9],
+        hashes: &[u32],
+        answer: &mut [u64; 8],
+    ) {
+        let [
+            rate,
+            _,
+            _,
+            _,
+            tolerance,
+            min_votes,
+            min_score,
+            min_prominence,
+            set,
+        ] = settings;
+        capi::index::wang_index_query(
             refs,
             postings,
             stopped,
-            &line[3..],
+            scratch,
+            hashes,
             rate,
-            limit,
+            tolerance,
+            min_votes,
+            min_score,
+            min_prominence,
             set,
             answer,
         );
-        return true;
     }
-    capi::index::panako_index_insert(
-        refs,
-        postings,
-        stopped,
-        &line[3..],
-        rate,
-        limit,
-        set,
-        answer,
-    );
-    true
 }
 
-// Id.
-fn remove(
-    is_wang: bool,
-    line: &[u32],
-    refs: &mut [u32],
-    postings: &mut [u32],
-    stopped: &mut [u32],
-    answer: &mut [u64; 8],
-) -> bool {
-    if line.len() != 1 {
-        return false;
-    }
-    let id = line[0];
-    if is_wang {
-        capi::index::wang_index_remove(refs, postings, stopped, id, answer);
-        return true;
-    }
-    capi::index::panako_index_remove(refs, postings, stopped, id, answer);
-    true
-}
-
-// Id, limit, rate, hashes.
-fn replace(
-    is_wang: bool,
-    line: &[u32],
-    refs: &mut [u32],
-    postings: &mut [u32],
-    stopped: &mut [u32],
-    answer: &mut [u64; 8],
-) -> bool {
-    if line.len() < 3 {
-        return false;
-    }
-    let id = line[0];
-    let limit = line[1];
-    let rate = line[2];
-    if is_wang {
-        capi::index::wang_index_replace(
+impl Replayed for PanakoIndex {
+    fn ask(
+        refs: &[u32],
+        postings: &[u32],
+        stopped: &[u32],
+        scratch: &mut [i64],
+        settings: [u32; 9],
+        hashes: &[u32],
+        answer: &mut [u64; 8],
+    ) {
+        let [
+            rate,
+            scale_min,
+            scale_max,
+            scale_bins,
+            tolerance,
+            min_votes,
+            min_score,
+            min_prominence,
+            set,
+        ] = settings;
+        capi::index::panako_index_query(
             refs,
             postings,
             stopped,
-            id,
-            &line[3..],
+            scratch,
+            hashes,
             rate,
-            limit,
+            scale_min,
+            scale_max,
+            scale_bins,
+            tolerance,
+            min_votes,
+            min_score,
+            min_prominence,
+            set,
             answer,
         );
-        return true;
-    }
-    capi::index::panako_index_replace(refs, postings, stopped, id, &line[3..], rate, limit, answer);
-    true
-}
-
-fn live_count(
-    is_wang: bool,
-    line: &[u32],
-    refs: &[u32],
-    postings: &[u32],
-    stopped: &[u32],
-    answer: &mut [u64; 8],
-) -> bool {
-    if line.len() != 0 {
-        return false;
-    }
-    if is_wang {
-        capi::index::wang_index_live_count(refs, postings, stopped, answer);
-        return true;
-    }
-    capi::index::panako_index_live_count(refs, postings, stopped, answer);
-    true
-}
-
-// Rate, scale_min, scale_max, scale_bins, tolerance, min_votes, min_score, min_prominence, set, hashes; Wang has no use for the scales.
-fn ask_wang(
-    line: &[u32],
-    refs: &[u32],
-    postings: &[u32],
-    stopped: &[u32],
-    scratch: &mut [i64],
-    answer: &mut [u64; 8],
-)
-    requires { 9 ≤ length line.now }
-{
-    capi::index::wang_index_query(
-        refs,
-        postings,
-        stopped,
-        scratch,
-        &line[9..],
-        line[0],
-        line[4],
-        line[5],
-        line[6],
-        line[7],
-        line[8],
-        answer,
-    );
-}
-
-fn ask_panako(
-    line: &[u32],
-    refs: &[u32],
-    postings: &[u32],
-    stopped: &[u32],
-    scratch: &mut [i64],
-    answer: &mut [u64; 8],
-)
-    requires { 9 ≤ length line.now }
-{
-    capi::index::panako_index_query(
-        refs,
-        postings,
-        stopped,
-        scratch,
-        &line[9..],
-        line[0],
-        line[1],
-        line[2],
-        line[3],
-        line[4],
-        line[5],
-        line[6],
-        line[7],
-        line[8],
-        answer,
-    );
-}
-
-fn ask(
-    is_wang: bool,
-    line: &[u32],
-    refs: &[u32],
-    postings: &[u32],
-    stopped: &[u32],
-    scratch: &mut [i64],
-    answer: &mut [u64; 8],
-)
-    requires { 9 ≤ length line.now }
-{
-    if is_wang {
-        ask_wang(line, refs, postings, stopped, scratch, answer);
-        return;
-    }
-    ask_panako(line, refs, postings, stopped, scratch, answer);
-}
-
-fn fill(scratch: &mut [i64], x: i64) {
-    let mut i: usize = 0;
-    while i < scratch.len() {
-        scratch[i] = x;
-        i += 1;
     }
 }
 
-fn holds_only(scratch: &[i64], x: i64) -> bool {
-    let mut same = true;
-    let mut i: usize = 0;
-    while i < scratch.len() {
-        same = same & (scratch[i] == x);
-        i += 1;
-    }
-    same
+// The first words of a line, as many as a count in it says, and those behind them.
+fn split(line: &[u32], count: u32) -> Result<(&[u32], &[u32]), Stop> {
+    line.split_at_checked(count as usize).ok_or(Stop::Differs)
 }
 
 // What a scratch is filled with is left by a refused query, zeros by an accepted one.
 fn left(answer: &[u64; 8], filling: i64) -> i64 {
-    if answer[0] == 6 {
-        return filling;
-    }
-    0
+    if answer[0] == 6 { filling } else { 0 }
 }
 
-// The query with its scratch filled before it. Whether the scratch is then as it is to be.
-fn ask_filled(
-    is_wang: bool,
+// A struct can't hold the lent slices: so each call takes them one by one.
+
+// Limit, numbers of lengths, of rates and of sets, lengths, rates, sets, hashes.
+fn build<I: Index>(
+    line: &[u32],
+    refs: &mut [u32],
+    postings: &mut [u32],
+    stopped: &mut [u32],
+    answer: &mut [u64; 8],
+) -> Result<(), Stop> {
+    let [limit, a, b, c, rest @ ..] = line else {
+        return Err(Stop::Differs);
+    };
+    let (lengths, rest) = split(rest, *a)?;
+    let (rates, rest) = split(rest, *b)?;
+    let (sets, hashes) = split(rest, *c)?;
+    capi::index::build::<I>(
+        refs, postings, stopped, hashes, lengths, rates, *limit, sets, answer,
+    );
+    Ok(())
+}
+
+// Limit, rate, set, hashes.
+fn insert<I: Index>(
+    line: &[u32],
+    refs: &mut [u32],
+    postings: &mut [u32],
+    stopped: &mut [u32],
+    answer: &mut [u64; 8],
+) -> Result<(), Stop> {
+    let [limit, rate, set, hashes @ ..] = line else {
+        return Err(Stop::Differs);
+    };
+    capi::index::insert::<I>(refs, postings, stopped, hashes, *rate, *limit, *set, answer);
+    Ok(())
+}
+
+// Id.
+fn remove<I: Index>(
+    line: &[u32],
+    refs: &mut [u32],
+    postings: &mut [u32],
+    stopped: &mut [u32],
+    answer: &mut [u64; 8],
+) -> Result<(), Stop> {
+    let [id] = line else {
+        return Err(Stop::Differs);
+    };
+    capi::index::remove::<I>(refs, postings, stopped, *id, answer);
+    Ok(())
+}
+
+// Id, limit, rate, hashes.
+fn replace<I: Index>(
+    line: &[u32],
+    refs: &mut [u32],
+    postings: &mut [u32],
+    stopped: &mut [u32],
+    answer: &mut [u64; 8],
+) -> Result<(), Stop> {
+    let [id, limit, rate, hashes @ ..] = line else {
+        return Err(Stop::Differs);
+    };
+    capi::index::replace::<I>(refs, postings, stopped, *id, hashes, *rate, *limit, answer);
+    Ok(())
+}
+
+fn live_count<I: Index>(
+    line: &[u32],
+    refs: &[u32],
+    postings: &[u32],
+    stopped: &[u32],
+    answer: &mut [u64; 8],
+) -> Result<(), Stop> {
+    if !line.is_empty() {
+        return Err(Stop::Differs);
+    }
+    capi::index::live_count::<I>(refs, postings, stopped, answer);
+    Ok(())
+}
+
+// Words of scratch, what they are filled with, and the query: its settings, then its hashes.
+fn query<I: Replayed>(
     line: &[u32],
     refs: &[u32],
     postings: &[u32],
     stopped: &[u32],
     scratch: &mut [i64],
-    filling: i64,
     answer: &mut [u64; 8],
-) -> bool
-    requires { 9 ≤ length line.now }
-{
-    fill(scratch, filling);
-    ask(is_wang, line, refs, postings, stopped, scratch, answer);
-    holds_only(scratch, left(answer, filling))
-}
-
-// Words of scratch, what they are filled with, and the query.
-fn query(
-    is_wang: bool,
-    line: &[u32],
-    refs: &[u32],
-    postings: &[u32],
-    stopped: &[u32],
-    scratch: &mut [i64],
-    answer: &mut [u64; 8],
-) -> bool {
-    if line.len() < 11 {
-        return false;
-    }
-    let n = crate::count_of(line[0]);
+) -> Result<(), Stop> {
+    let [size, filling, rest @ ..] = line else {
+        return Err(Stop::Differs);
+    };
+    let (settings, hashes) = rest.split_first_chunk::<9>().ok_or(Stop::Differs)?;
+    let n = *size as usize;
     if n > scratch.len() {
-        return false;
+        return Err(Stop::Differs);
     }
-    let filling = crate::count_of(line[1]) as i64;
-    ask_filled(
-        is_wang,
-        &line[2..],
-        refs,
-        postings,
-        stopped,
-        &mut scratch[..n],
-        filling,
-        answer,
-    )
+    let scratch = &mut scratch[..n];
+    let filling = i64::from(*filling);
+    scratch.fill(filling);
+    I::ask(refs, postings, stopped, scratch, *settings, hashes, answer);
+    let left = left(answer, filling);
+    if scratch.iter().all(|x| *x == left) {
+        Ok(())
+    } else {
+        Err(Stop::Differs)
+    }
 }
 
-// The calls that may change the store.
-fn change(
-    letter: u8,
-    is_wang: bool,
+fn contents_on(
+    contents: Contents,
     line: &[u32],
-    refs: &mut [u32],
-    postings: &mut [u32],
-    stopped: &mut [u32],
-    answer: &mut [u64; 8],
+    lent: Lent,
+    refs: &mut [u32; REFS],
+    postings: &mut [u32; POSTINGS],
+    stopped: &mut [u32; STOPPED],
+    answer: &[u64; 8],
 ) -> bool {
-    if letter == b'B' {
-        return build(is_wang, line, refs, postings, stopped, answer);
-    }
-    if letter == b'I' {
-        return insert(is_wang, line, refs, postings, stopped, answer);
-    }
-    if letter == b'S' {
-        return replace(is_wang, line, refs, postings, stopped, answer);
-    }
-    remove(is_wang, line, refs, postings, stopped, answer)
+    let refs = &mut refs[..lent.refs];
+    let postings = &mut postings[..lent.postings];
+    let stopped = &mut stopped[..lent.stopped];
+    replay_text::run_contents(contents, line, refs, postings, stopped, answer)
 }
 
-pub fn run(
-    letter: u8,
-    is_wang: bool,
+fn call_on<I: Replayed>(
+    call: Call,
     line: &[u32],
-    refs: &mut [u32],
-    postings: &mut [u32],
-    stopped: &mut [u32],
-    scratch: &mut [i64],
+    lent: Lent,
+    refs: &mut [u32; REFS],
+    postings: &mut [u32; POSTINGS],
+    stopped: &mut [u32; STOPPED],
+    scratch: &mut [i64; SCRATCH],
     answer: &mut [u64; 8],
-) -> bool {
-    if letter == b'C' {
-        return live_count(is_wang, line, refs, postings, stopped, answer);
+) -> Result<(), Stop> {
+    let refs = &mut refs[..lent.refs];
+    let postings = &mut postings[..lent.postings];
+    let stopped = &mut stopped[..lent.stopped];
+    match call {
+        Call::Build => build::<I>(line, refs, postings, stopped, answer),
+        Call::Insert => insert::<I>(line, refs, postings, stopped, answer),
+        Call::Remove => remove::<I>(line, refs, postings, stopped, answer),
+        Call::Replace => replace::<I>(line, refs, postings, stopped, answer),
+        Call::LiveCount => live_count::<I>(line, refs, postings, stopped, answer),
+        Call::Query => query::<I>(line, refs, postings, stopped, scratch, answer),
     }
-    if letter == b'Q' {
-        return query(is_wang, line, refs, postings, stopped, scratch, answer);
+}
+
+impl Store {
+    // All zeros.
+    pub fn new() -> Store {
+        Store {
+            refs: [0; REFS],
+            postings: [0; POSTINGS],
+            stopped: [0; STOPPED],
+            scratch: [0; SCRATCH],
+            answer: [0; 8],
+        }
     }
-    change(letter, is_wang, line, refs, postings, stopped, answer)
+
+    // A line on the lent slices and the answer. Whether it is as the line says.
+    pub fn run_contents(&mut self, contents: Contents, lent: Lent, line: &[u32]) -> bool {
+        contents_on(
+            contents,
+            line,
+            lent,
+            &mut self.refs,
+            &mut self.postings,
+            &mut self.stopped,
+            &self.answer,
+        )
+    }
+
+    pub fn run<I: Replayed>(&mut self, call: Call, lent: Lent, line: &[u32]) -> Result<(), Stop> {
+        call_on::<I>(
+            call,
+            line,
+            lent,
+            &mut self.refs,
+            &mut self.postings,
+            &mut self.stopped,
+            &mut self.scratch,
+            &mut self.answer,
+        )
+    }
 }

@@ -18,241 +18,148 @@
 mod calls;
 mod text;
 
-ghost use Rattle.std.specs.Prelude.{◌≡◌, ◌<◌};
-
+use calls::{Call, Lent, Store};
+use panako::PanakoIndex;
+use replay_text::Contents;
 use std::io;
 use std::io::Stdin;
-use text::Line;
+use wang::WangIndex;
 
-// Stores of at most 40 references, 512 entries of Panako and 64 stopped keys, scratch for 512 votes of Panako, lines of at most 4,224 words.
-const REFS: usize = rows::HEAD_WIDTH + 40 * rows::ROW_WIDTH;
-
-const POSTINGS: usize = 2560;
-
-const STOPPED: usize = 64;
-
-const SCRATCH: usize = 6144;
-
+// Lines of at most 4,224 words.
 const WORDS: usize = 4224;
 
 const TEXT: usize = 38017;
 
-// The lines and calls so far, the index, the words of the slices that are lent, whether the list goes on, and whether all was as it is to be.
+// Why the list isn't run further.
+#[derive(Drop)]
+pub enum Stop {
+    // A line isn't as it is to be.
+    Differs,
+    Failed(io::Error),
+}
+
+impl From<io::Error> for Stop {
+    fn from(error: io::Error) -> Stop {
+        Stop::Failed(error)
+    }
+}
+
+// A line's letter.
 #[derive(Clone, Copy)]
-struct State {
+enum Letter {
+    Lend,
+    Call(Call),
+    Contents(Contents),
+}
+
+impl TryFrom<u8> for Letter {
+    type Error = Stop;
+
+    fn try_from(letter: u8) -> Result<Letter, Stop> {
+        Ok(match letter {
+            b'N' => Letter::Lend,
+            b'B' => Letter::Call(Call::Build),
+            b'I' => Letter::Call(Call::Insert),
+            b'D' => Letter::Call(Call::Remove),
+            b'S' => Letter::Call(Call::Replace),
+            b'C' => Letter::Call(Call::LiveCount),
+            b'Q' => Letter::Call(Call::Query),
+            _ => match Contents::try_from(letter) {
+                Ok(contents) => Letter::Contents(contents),
+                Err(_) => return Err(Stop::Differs),
+            },
+        })
+    }
+}
+
+#[derive(Clone, Copy)]
+enum Which {
+    Wang,
+    Panako,
+}
+
+// The index that is called, the store, how much of it is lent, none where it has less than was asked for, and the lines and calls so far.
+#[derive(Drop)]
+struct Replay {
+    which: Which,
+    store: Store,
+    lent: Option<Lent>,
     lines: u64,
     calls: u64,
-    is_wang: bool,
-    refs: usize,
-    postings: usize,
-    stopped: usize,
-    more: bool,
-    good: bool,
 }
 
-// A count in a line.
-pub fn count_of(x: u32) -> usize
-    ensures { (result ≡ x) × (result < 4294967296) }
-{
-    x as usize
-}
+impl Replay {
+    // Posting width and slice lengths.
+    fn lend(&mut self, line: &[u32]) -> Result<(), Stop> {
+        let [width, refs, postings, stopped] = line else {
+            return Err(Stop::Differs);
+        };
+        self.which = if *width == 3 {
+            Which::Wang
+        } else {
+            Which::Panako
+        };
+        self.lent = Lent::new(*refs as usize, *postings as usize, *stopped as usize);
+        Ok(())
+    }
 
-// After a line that was good or not.
-fn after(st: State, calls: u64, good: bool) -> State {
-    State {
-        lines: std::num::wrapping_add_u64(st.lines, 1),
-        calls: std::num::wrapping_add_u64(st.calls, calls),
-        is_wang: st.is_wang,
-        refs: st.refs,
-        postings: st.postings,
-        stopped: st.stopped,
-        more: good,
-        good,
+    fn call(&mut self, call: Call, line: &[u32]) -> Result<(), Stop> {
+        let lent = self.lent.ok_or(Stop::Differs)?;
+        self.calls = self.calls.wrapping_add(1);
+        match self.which {
+            Which::Wang => self.store.run::<WangIndex>(call, lent, line),
+            Which::Panako => self.store.run::<PanakoIndex>(call, lent, line),
+        }
     }
-}
 
-fn ended(st: State) -> State {
-    State {
-        lines: st.lines,
-        calls: st.calls,
-        is_wang: st.is_wang,
-        refs: st.refs,
-        postings: st.postings,
-        stopped: st.stopped,
-        more: false,
-        good: st.good,
+    fn check(&mut self, contents: Contents, line: &[u32]) -> Result<(), Stop> {
+        let lent = self.lent.ok_or(Stop::Differs)?;
+        if self.store.run_contents(contents, lent, line) {
+            Ok(())
+        } else {
+            Err(Stop::Differs)
+        }
     }
-}
 
-// Posting width and slice lengths.
-fn lend(line: &[u32], st: State) -> State {
-    if line.len() != 4 {
-        return after(st, 0, false);
+    // A line of a letter and words.
+    fn run_line(&mut self, letter: u8, line: &[u32]) -> Result<(), Stop> {
+        match Letter::try_from(letter)? {
+            Letter::Lend => self.lend(line),
+            Letter::Call(call) => self.call(call, line),
+            Letter::Contents(contents) => self.check(contents, line),
+        }
     }
-    State {
-        lines: std::num::wrapping_add_u64(st.lines, 1),
-        calls: st.calls,
-        is_wang: line[0] == 3,
-        refs: count_of(line[1]),
-        postings: count_of(line[2]),
-        stopped: count_of(line[3]),
-        more: true,
-        good: true,
-    }
-}
 
-// A call that may change the store.
-fn is_change(letter: u8) -> bool {
-    (letter == b'B') | (letter == b'I') | (letter == b'D') | (letter == b'S')
-}
-
-fn is_call(letter: u8) -> bool {
-    is_change(letter) | (letter == b'C') | (letter == b'Q')
-}
-
-// A line on the lent slices.
-fn run_on(
-    letter: u8,
-    line: &[u32],
-    refs: &mut [u32],
-    postings: &mut [u32],
-    stopped: &mut [u32],
-    scratch: &mut [i64],
-    answer: &mut [u64; 8],
-    st: State,
-) -> State {
-    if is_call(letter) {
-        let is_wang = st.is_wang;
-        let good = calls::run(
-            letter, is_wang, line, refs, postings, stopped, scratch, answer,
-        );
-        return after(st, 1, good);
+    // The whole list. A proved loop has to end, and nothing says that the input does: so the lines are counted up to a number that no run reaches.
+    fn run(&mut self, input: Stdin) -> Result<(), Stop> {
+        let mut words = [0u32; WORDS];
+        let mut text = [0u8; TEXT];
+        for line in 0..u64::MAX {
+            self.lines = line + 1;
+            let Some((letter, n)) = text::read_line(input, &mut text, &mut words)? else {
+                self.lines = line;
+                return Ok(());
+            };
+            self.run_line(letter, &words[..n])?;
+        }
+        Ok(())
     }
-    let good = replay_text::run_contents(letter, line, refs, postings, stopped, answer);
-    after(st, 0, good)
-}
-
-// A line of the first n words.
-fn run_line(
-    letter: u8,
-    words: &[u32],
-    n: usize,
-    refs: &mut [u32],
-    postings: &mut [u32],
-    stopped: &mut [u32],
-    scratch: &mut [i64],
-    answer: &mut [u64; 8],
-    st: State,
-) -> State {
-    if n > words.len() {
-        return after(st, 0, false);
-    }
-    if letter == b'N' {
-        return lend(&words[..n], st);
-    }
-    let r = st.refs;
-    let p = st.postings;
-    let k = st.stopped;
-    if r > refs.len() {
-        return after(st, 0, false);
-    }
-    if p > postings.len() {
-        return after(st, 0, false);
-    }
-    if k > stopped.len() {
-        return after(st, 0, false);
-    }
-    run_on(
-        letter,
-        &words[..n],
-        &mut refs[..r],
-        &mut postings[..p],
-        &mut stopped[..k],
-        scratch,
-        answer,
-        st,
-    )
-}
-
-// The next line: it is read and run.
-fn turn(
-    input: Stdin,
-    refs: &mut [u32; REFS],
-    postings: &mut [u32; POSTINGS],
-    stopped: &mut [u32; STOPPED],
-    scratch: &mut [i64; SCRATCH],
-    answer: &mut [u64; 8],
-    words: &mut [u32; WORDS],
-    text: &mut [u8; TEXT],
-    st: State,
-) -> io::Result<State> {
-    match text::read_line(input, text, words)? {
-        Line::End => Ok(ended(st)),
-        Line::Fault => Ok(after(st, 0, false)),
-        Line::Of(letter, n) => Ok(run_line(
-            letter, words, n, refs, postings, stopped, scratch, answer, st,
-        )),
-    }
-}
-
-// The whole list. A proved loop has to end, and nothing says that the input does: so the turns are counted down, from a number that no run
-// uses up.
-fn run(
-    input: Stdin,
-    refs: &mut [u32; REFS],
-    postings: &mut [u32; POSTINGS],
-    stopped: &mut [u32; STOPPED],
-    scratch: &mut [i64; SCRATCH],
-    answer: &mut [u64; 8],
-    words: &mut [u32; WORDS],
-    text: &mut [u8; TEXT],
-) -> io::Result<State> {
-    let mut st = State {
-        lines: 0,
-        calls: 0,
-        is_wang: true,
-        refs: 0,
-        postings: 0,
-        stopped: 0,
-        more: true,
-        good: true,
-    };
-    let mut turns = u64::MAX;
-    while turns > 0 && st.more {
-        st = turn(
-            input, refs, postings, stopped, scratch, answer, words, text, st,
-        )?;
-        turns -= 1;
-    }
-    Ok(st)
-}
-
-fn report(rt: &impl Print, st: State) -> io::Result<()> {
-    let calls = st.calls;
-    let lines = st.lines;
-    if st.good {
-        return println!(rt; "replay: {calls} calls, {lines} lines, 0 differences");
-    }
-    println!(rt; "replay: line {lines} differs")
 }
 
 fn main(rt: HostRuntime) -> io::Result<()> {
-    let mut refs = [0u32; REFS];
-    let mut postings = [0u32; POSTINGS];
-    let mut stopped = [0u32; STOPPED];
-    let mut scratch = [0i64; SCRATCH];
-    let mut answer = [0u64; 8];
-    let mut words = [0u32; WORDS];
-    let mut text = [0u8; TEXT];
-    let st = run(
-        rt.stdin(),
-        &mut refs,
-        &mut postings,
-        &mut stopped,
-        &mut scratch,
-        &mut answer,
-        &mut words,
-        &mut text,
-    )?;
-    report(&rt, st)
+    let mut replay = Replay {
+        which: Which::Wang,
+        store: Store::new(),
+        lent: Lent::new(0, 0, 0),
+        lines: 0,
+        calls: 0,
+    };
+    let end = replay.run(rt.stdin());
+    let lines = replay.lines;
+    let calls = replay.calls;
+    match end {
+        Ok(()) => println!(rt; "replay: {calls} calls, {lines} lines, 0 differences"),
+        Err(Stop::Differs) => println!(rt; "replay: line {lines} differs"),
+        Err(Stop::Failed(error)) => Err(error),
+    }
 }

@@ -1,16 +1,9 @@
 // Lines of the list, read from standard input.
-ghost use Rattle.std.specs.Prelude.{◌≤◌, length, IfOk};
+ghost use Rattle.std.specs.Prelude.{◌≤◌, length, IfOk, IfSome};
 
+use crate::Stop;
 use std::io;
 use std::io::{Read, Stdin};
-
-// What stands next on the input: nothing, something else than a line, or a line's letter and how many words it has.
-#[derive(Clone, Copy)]
-pub enum Line {
-    End,
-    Fault,
-    Of(u8, usize),
-}
 
 // Reads until the bytes are full or the input ends, and answers how many came.
 fn read_full(mut input: Stdin, bytes: &mut [u8]) -> io::Result<usize>
@@ -27,54 +20,45 @@ fn read_full(mut input: Stdin, bytes: &mut [u8]) -> io::Result<usize>
     Ok(done)
 }
 
-// Whether the input has `len` bytes more: they are read into the beginning of `text`.
-fn filled(input: Stdin, text: &mut [u8], len: usize) -> io::Result<bool>
-    requires { len ≤ length text.old }
-{
-    let got = read_full(input, &mut text[..len])?;
-    Ok(got == len)
-}
-
 // Reads the n words of a line and its end.
-fn read_body(input: Stdin, text: &mut [u8], words: &mut [u32], n: usize) -> io::Result<bool>
+fn read_body(input: Stdin, text: &mut [u8], words: &mut [u32], n: usize) -> Result<(), Stop>
     requires { n ≤ length words.old }
 {
-    let size = text.len();
-    if n > size / 9 {
-        return Ok(false);
+    if n > text.len() / 9 {
+        return Err(Stop::Differs);
     }
     let end = 9 * n;
-    if end == size {
-        return Ok(false);
+    if end == text.len() {
+        return Err(Stop::Differs);
     }
-    if !filled(input, text, end + 1)? {
-        return Ok(false);
+    let whole = read_full(input, &mut text[..end + 1])? == end + 1;
+    if whole && text[end] == b'\n' && replay_text::read_words(text, n, words) {
+        Ok(())
+    } else {
+        Err(Stop::Differs)
     }
-    if text[end] != 10 {
-        return Ok(false);
-    }
-    Ok(replay_text::read_words(text, n, words))
 }
 
-// Reads the next line: its words stand at the beginning of `words`.
-pub fn read_line(input: Stdin, text: &mut [u8], words: &mut [u32]) -> io::Result<Line> {
+// Reads the next line, if there is one: its letter, and how many words it has, which stand at the beginning of `words`.
+pub fn read_line(
+    input: Stdin,
+    text: &mut [u8],
+    words: &mut [u32],
+) -> Result<Option<(u8, usize)>, Stop>
+    ensures { IfOk result (λ line. IfSome line (λ l. l.1 ≤ length words.new)) }
+{
     let mut head = [0u8; 10];
     let got = read_full(input, &mut head)?;
     if got == 0 {
-        return Ok(Line::End);
+        return Ok(None);
     }
     if got < 10 {
-        return Ok(Line::Fault);
+        return Err(Stop::Differs);
     }
-    if !replay_text::is_word(&head, 1) {
-        return Ok(Line::Fault);
-    }
-    let n = crate::count_of(replay_text::word_at(&head, 2));
+    let n = replay_text::word_at(&head, 1).ok_or(Stop::Differs)? as usize;
     if n > words.len() {
-        return Ok(Line::Fault);
+        return Err(Stop::Differs);
     }
-    if !read_body(input, text, words, n)? {
-        return Ok(Line::Fault);
-    }
-    Ok(Line::Of(head[0], n))
+    read_body(input, text, words, n)?;
+    Ok(Some((head[0], n)))
 }
