@@ -14,7 +14,7 @@ ghost use Rattle.panako_judge.specs.Scheme.{panako};
 ghost use Rattle.capi.specs.Codes.{single};
 ghost use Rattle.capi.specs.Answers.{case_words, best_words, answer_words, in_words, in_words_with, wang_asked, panako_config, panako_asked};
 
-use index::Index;
+use index_calls::Index;
 use panako::PanakoIndex;
 use panako_vote::PanakoMatchConfig;
 use query_rank::Found;

@@ -1,4 +1,4 @@
-// PanakoIndex: the index of crate `index` at Panako's scheme. A posting has 5 words, key, id, t_anchor, t_b and t_c; a hash key, t_anchor, t_b and t_c; a
+// PanakoIndex: the index of crate `index_calls` at Panako's scheme. A posting has 5 words, key, id, t_anchor, t_b and t_c; a hash key, t_anchor, t_b and t_c; a
 // vote 12 words of scratch.
 #![tactic(auto)]
 
@@ -6,7 +6,7 @@ ghost use Rattle.std.specs.Prelude.{refl};
 ghost use borrow.Author.Tests.{leb-true};
 ghost use Rattle.panako_judge.specs.Scheme.{panako, query_with};
 
-pub use index::Index;
+pub use index_calls::Index;
 use panako_vote::PanakoMatchConfig;
 use query_rank::Found;
 use refusals::Refusal;

@@ -3,7 +3,7 @@
 ghost use Rattle.std.specs.Prelude.{◌≤◌};
 
 use crate::Stop;
-use index::Index;
+use index_calls::Index;
 use panako::PanakoIndex;
 use replay_text::Contents;
 use wang::WangIndex;

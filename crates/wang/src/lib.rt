@@ -1,11 +1,11 @@
-// WangIndex: the index of crate `index` at Wang's scheme. A posting has 3 words, key, id and t_anchor; a hash key and t_anchor; a vote 6 words of scratch.
+// WangIndex: the index of crate `index_calls` at Wang's scheme. A posting has 3 words, key, id and t_anchor; a hash key and t_anchor; a vote 6 words of scratch.
 #![tactic(auto)]
 
 ghost use Rattle.std.specs.Prelude.{refl};
 ghost use borrow.Author.Tests.{leb-true};
 ghost use Rattle.wang_judge.specs.Scheme.{wang, query_with};
 
-pub use index::Index;
+pub use index_calls::Index;
 use query_rank::Found;
 use refusals::Refusal;
 use wang_judge::WangMatchConfig;
