@@ -191,7 +191,7 @@ fn query<I: Index>(
     *answer = finding_words(I::query(refs, postings, stopped, scratch, hashes, fps, cfg, set));
 }
 
-// A query's settings by their words.
+// The settings of a query are other words for each index in the C interface: so it has a function for each.
 pub fn wang_index_query(
     refs: &[u32],
     postings: &[u32],

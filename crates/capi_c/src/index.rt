@@ -1,5 +1,5 @@
 // The calls of the two indexes. The answer's first word is the case, the others its values, unused ones 0. Each contract is one equation: those words, with
-// the store and a query's scratch at exit, are what `run` says of the call.
+// the store and a query's scratch at exit, are what `run` says of the call. C has no generic functions, so each call is exported for either index.
 ghost use Rattle.std.specs.Prelude.{◌≡◌, length};
 ghost use Rattle.model.specs.Calls.{build, insert, remove, replace, live_count, query};
 ghost use Rattle.model.specs.Run.{run};

@@ -164,7 +164,7 @@ fn left(answer: &[u64; 8], filling: i64) -> i64 {
     if answer[0] == 6 { filling } else { 0 }
 }
 
-// A struct can't hold the lent slices: so each call takes them one by one.
+// The calls take the lent slices one by one: no generated proof covers parts of several fields of a struct that are lent at once.
 
 // Limit, numbers of lengths, of rates and of sets, lengths, rates, sets, hashes.
 fn build<I: Index>(

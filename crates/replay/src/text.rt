@@ -10,6 +10,7 @@ fn read_full(mut input: Stdin, bytes: &mut [u8]) -> io::Result<usize>
     ensures { IfOk result (λ n. n ≤ length bytes.new) }
 {
     let mut done = 0;
+    // A read brings as many bytes as it likes, so the loop steps by those that came.
     while done < bytes.len() {
         let n = input.read(&mut bytes[done..])?;
         if n == 0 {

@@ -117,6 +117,7 @@ fn read_to(streams: Streams, bytes: &mut [u8], start: usize, end: usize) -> Resu
 {
     let mut stdin = streams.rt.stdin();
     let mut at = start;
+    // A read brings as many bytes as it likes, so the loop steps by those that came.
     while at < end {
         match stdin.read(&mut bytes[at..end]) {
             Ok(0) => {

@@ -22,7 +22,7 @@ use Rattle.model.specs.Fingerprints.{hashes_of, divided, malformed, malformed_bu
 use Rattle.model.specs.Rows.{canonical, is_canonical, is_set, in_set, row_of, largest_anchor}
 use Rattle.model.specs.Index.{numbered, exceeds, stop_keys, inserted, built_from, erased}
 use Rattle.model.specs.Query.{Query, gather, too_many_votes, candidate, best_below}
-use Rattle.model.specs.Calls.{nothing, query, build_tests, insert_tests, replace_tests, plain_tests, early_tests, query_tests, scratch_listed, build_step, insert_step, remove_step, replace_step, query_step}
+use Rattle.model.specs.Calls.{build_tests, insert_tests, replace_tests, plain_tests, early_tests, query_tests, scratch_listed, build_step, insert_step, remove_step, replace_step, query_step}
 use Rattle.model.specs.Words.{sizes_of, sizes_listed, slices_listed, row_entries, write, read_index}
 use Rattle.model.specs.Soundness.{counts_fit, live_word, stopped_step, dead_row, other_entry, vacant_entry, dead_fine, rate_fine, live_id, posting_live, anchor_fine, rmax_fine, other_key, key_unstopped, entry_unused, set_fine, sound_tests, sound_words}
 use Rattle.model.specs.Run.{store_of, run_build, run_insert, run_remove, run_replace, run_query}
