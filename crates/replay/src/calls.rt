@@ -286,7 +286,7 @@ fn contents_on(
     let refs = &mut refs[..lent.refs];
     let postings = &mut postings[..lent.postings];
     let stopped = &mut stopped[..lent.stopped];
-    replay_text::run_contents(contents, line, refs, postings, stopped, answer)
+    contents.run(line, refs, postings, stopped, answer)
 }
 
 fn call_on<I: Replayed>(

@@ -20,7 +20,7 @@ mod text;
 
 use calls::{Call, Lent, Store};
 use panako::PanakoIndex;
-use replay_text::Contents;
+use replay_text::{Contents, UnknownLetter};
 use std::io;
 use std::io::Stdin;
 use wang::WangIndex;
@@ -44,6 +44,12 @@ impl From<io::Error> for Stop {
     }
 }
 
+impl From<UnknownLetter> for Stop {
+    fn from(_: UnknownLetter) -> Stop {
+        Stop::Differs
+    }
+}
+
 // A line's letter.
 #[derive(Clone, Copy)]
 enum Letter {
@@ -64,10 +70,7 @@ impl TryFrom<u8> for Letter {
             b'S' => Letter::Call(Call::Replace),
             b'C' => Letter::Call(Call::LiveCount),
             b'Q' => Letter::Call(Call::Query),
-            _ => match Contents::try_from(letter) {
-                Ok(contents) => Letter::Contents(contents),
-                Err(_) => return Err(Stop::Differs),
-            },
+            _ => Letter::Contents(Contents::try_from(letter)?),
         })
     }
 }

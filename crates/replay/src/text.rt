@@ -10,7 +10,7 @@ fn read_full(mut input: Stdin, bytes: &mut [u8]) -> io::Result<usize>
     ensures { IfOk result (λ n. n ≤ length bytes.new) }
 {
     let mut done = 0;
-    // A read brings as many bytes as it likes, so the loop steps by those that came.
+    // A read brings as many bytes as it likes, so the loop goes on by those that came.
     while done < bytes.len() {
         let n = input.read(&mut bytes[done..])?;
         if n == 0 {
@@ -53,10 +53,10 @@ pub fn read_line(
     if got == 0 {
         return Ok(None);
     }
-    if got < 10 {
+    if got < 10 || !replay_text::is_word(&head, 1) {
         return Err(Stop::Differs);
     }
-    let n = replay_text::word_at(&head, 1).ok_or(Stop::Differs)? as usize;
+    let n = replay_text::word_at(&head, 2) as usize;
     if n > words.len() {
         return Err(Stop::Differs);
     }

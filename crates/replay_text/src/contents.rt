@@ -38,28 +38,50 @@ impl TryFrom<u8> for Contents {
     }
 }
 
-// A line that puts words into a slice, or says what a slice or the answer holds. Whether it is as the line says.
+impl Contents {
+    // A line that puts words into a slice, or says what a slice or the answer holds. Whether it is as the line says.
+    pub fn run(
+        self,
+        line: &[u32],
+        refs: &mut [u32],
+        postings: &mut [u32],
+        stopped: &mut [u32],
+        answer: &[u64; 8],
+    ) -> bool
+        ensures value { result ≡ as_said (letter_of self) line.now refs.old postings.old stopped.old answer.now }
+        ensures refs_after { refs.new ≡ put_by 114 (letter_of self) line.now refs.old }
+        ensures postings_after { postings.new ≡ put_by 112 (letter_of self) line.now postings.old }
+        ensures stopped_after { stopped.new ≡ put_by 107 (letter_of self) line.now stopped.old }
+    {
+        match self {
+            Contents::Answer => return crate::is_answered(answer, line),
+            Contents::References => return crate::is_held(refs, line),
+            Contents::Postings => return crate::is_held(postings, line),
+            Contents::Stopped => return crate::is_held(stopped, line),
+            Contents::NewReferences => crate::put(refs, line),
+            Contents::NewPostings => crate::put(postings, line),
+            Contents::NewStopped => crate::put(stopped, line),
+        }
+        true
+    }
+}
+
+// The line with this letter, false where no such line has it.
 pub fn run_contents(
-    contents: Contents,
+    letter: u8,
     line: &[u32],
     refs: &mut [u32],
     postings: &mut [u32],
     stopped: &mut [u32],
     answer: &[u64; 8],
 ) -> bool
-    ensures value { result ≡ as_said (letter_of contents) line.now refs.old postings.old stopped.old answer.now }
-    ensures refs_after { refs.new ≡ put_by 114 (letter_of contents) line.now refs.old }
-    ensures postings_after { postings.new ≡ put_by 112 (letter_of contents) line.now postings.old }
-    ensures stopped_after { stopped.new ≡ put_by 107 (letter_of contents) line.now stopped.old }
+    ensures value { result ≡ as_said letter line.now refs.old postings.old stopped.old answer.now }
+    ensures refs_after { refs.new ≡ put_by 114 letter line.now refs.old }
+    ensures postings_after { postings.new ≡ put_by 112 letter line.now postings.old }
+    ensures stopped_after { stopped.new ≡ put_by 107 letter line.now stopped.old }
 {
-    match contents {
-        Contents::Answer => return crate::is_answered(answer, line),
-        Contents::References => return crate::is_held(refs, line),
-        Contents::Postings => return crate::is_held(postings, line),
-        Contents::Stopped => return crate::is_held(stopped, line),
-        Contents::NewReferences => crate::put(refs, line),
-        Contents::NewPostings => crate::put(postings, line),
-        Contents::NewStopped => crate::put(stopped, line),
+    match Contents::try_from(letter) {
+        Ok(contents) => contents.run(line, refs, postings, stopped, answer),
+        Err(_) => false,
     }
-    true
 }

@@ -3,7 +3,7 @@
 
 mod contents;
 
-ghost use Rattle.std.specs.Prelude.{◌≡◌, true, false, MatchOption, ◌+◌, ◌*◌, ◌%◌, ◌^◌, ◌≤◌, ◌<◌, length, get_or, take};
+ghost use Rattle.std.specs.Prelude.{◌≡◌, true, ◌+◌, ◌*◌, ◌%◌, ◌^◌, ◌≤◌, ◌<◌, length, get_or, take};
 ghost use Rattle.lists.specs.Every.{every};
 ghost use Rattle.replay_text.specs.Digits.{digit_of, pair_at, are_pair, word_at, is_word, word_stands, first_words};
 ghost use Rattle.replay_text.specs.Words.{padded_to, holds, pair_of, holds_pairs};
@@ -12,40 +12,57 @@ pub use contents::{Contents, UnknownLetter, run_contents};
 
 // ---- words as text
 
-// The value of a hexadecimal digit.
-fn digit_of(b: u8) -> Option<u32>
-    ensures { MatchOption result (digit_of b ≡ 16) (λ d. (d < 16) × (d ≡ digit_of b)) }
+// The value of a hexadecimal digit, 16 for another byte: `word_at` gives every text a number.
+fn digit_of(b: u8) -> u64
+    ensures value { result ≡ digit_of b }
+    ensures upper_bound { result ≤ 16 }
 {
     match b {
-        b'0'..=b'9' => Some(u32::from(b - b'0')),
-        b'A'..=b'F' => Some(u32::from(b - b'A') + 10),
-        _ => None,
+        b'0'..=b'9' => u64::from(b - b'0'),
+        b'A'..=b'F' => u64::from(b - b'A') + 10,
+        _ => 16,
     }
 }
 
 // The number of two digits.
-#[tactic(auto, unfolding(crate::specs::Digits::are_pair, crate::specs::Digits::pair_at))]
-fn pair_at(text: &[u8], at: usize) -> Option<u32>
+#[tactic(auto, unfolding(crate::specs::Digits::pair_at))]
+fn pair_at(text: &[u8], at: usize) -> u64
     requires { at + 2 ≤ length text.now }
-    ensures { MatchOption result (are_pair text.now at ≡ false)
-        (λ n. (n < 256) × (are_pair text.now at ≡ true) × (n ≡ pair_at text.now at)) }
+    ensures value { result ≡ pair_at text.now at }
+    ensures upper_bound { result ≤ 272 }
 {
-    Some(digit_of(text[at])? * 16 + digit_of(text[at + 1])?)
+    digit_of(text[at]) * 16 + digit_of(text[at + 1])
 }
 
-// The number of eight digits behind a blank.
-#[tactic(auto, unfolding(crate::specs::Digits::is_word, crate::specs::Digits::word_at))]
-pub fn word_at(text: &[u8], at: usize) -> Option<u32>
-    requires { at + 9 ≤ length text.now }
-    ensures { MatchOption result (is_word text.now at ≡ false)
-        (λ w. (is_word text.now at ≡ true) × (w ≡ word_at text.now (at + 1) % 2 ^ 32)) }
+// Whether both are digits.
+#[tactic(auto, unfolding(crate::specs::Digits::are_pair))]
+fn are_pair(text: &[u8], at: usize) -> bool
+    requires { at + 2 ≤ length text.now }
+    ensures { result ≡ are_pair text.now at }
 {
-    if text[at] != b' ' {
-        return None;
-    }
-    let high = pair_at(text, at + 1)? * 256 + pair_at(text, at + 3)?;
-    let low = pair_at(text, at + 5)? * 256 + pair_at(text, at + 7)?;
-    Some(high * 65536 + low)
+    digit_of(text[at]) < 16 && digit_of(text[at + 1]) < 16
+}
+
+// The number of eight digits.
+#[tactic(auto, unfolding(crate::specs::Digits::word_at))]
+pub fn word_at(text: &[u8], at: usize) -> u32
+    requires { at + 8 ≤ length text.now }
+    ensures { result ≡ word_at text.now at % 2 ^ 32 }
+{
+    let high = pair_at(text, at) * 256 + pair_at(text, at + 2);
+    let low = pair_at(text, at + 4) * 256 + pair_at(text, at + 6);
+    ((high * 65536 + low) % 4294967296) as u32
+}
+
+// Whether a blank and eight digits stand there.
+#[tactic(auto, unfolding(crate::specs::Digits::is_word))]
+pub fn is_word(text: &[u8], at: usize) -> bool
+    requires { at + 9 ≤ length text.now }
+    ensures { result ≡ is_word text.now at }
+{
+    let high = are_pair(text, at + 1) && are_pair(text, at + 3);
+    let low = are_pair(text, at + 5) && are_pair(text, at + 7);
+    text[at] == b' ' && high && low
 }
 
 // Whether n words stand at the beginning of a text, each behind a blank: they are then put at the beginning of `words`.
@@ -55,10 +72,10 @@ pub fn read_words(text: &[u8], n: usize, words: &mut [u32]) -> bool
     ensures words_after { result ≡ true → take n words.new ≡ first_words n text.now }
 {
     for i in 0..n {
-        match word_at(text, 9 * i) {
-            Some(word) => words[i] = word,
-            None => return false,
+        if !is_word(text, 9 * i) {
+            return false;
         }
+        words[i] = word_at(text, 9 * i + 1);
     }
     true
 }
