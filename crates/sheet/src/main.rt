@@ -4,14 +4,14 @@
 #![tactic(auto)]
 
 ghost use Rattle.std.specs.Prelude.{Bool, IfOk, ◌≡◌, ◌+◌, ◌≤◌, ◌<◌, length, take};
+ghost use Rattle.soundness.specs.Scan.{words};
 ghost use Rattle.sheet_text.specs.Put.{line_most};
-ghost use Rattle.sheet_records.specs.Memory.{store_of};
+ghost use Rattle.sheet_kinds.specs.Kinds.{zero_scratch};
 ghost use Rattle.sheet_card.specs.Sheet.{empty_store};
 ghost use Rattle.sheet_card.specs.Turns.{body_length, limit, started};
 ghost use Rattle.sheet.specs.Reading.{end_of, Asked, VersionRead, TurnTaken};
 
 use sheet_card::Progress;
-use sheet_records::Memory;
 use std::fs::File;
 use std::io::{IsTerminal, Read};
 use std::os::unix::fs::FileTypeExt;
@@ -184,27 +184,41 @@ fn start(streams: Streams, bytes: &mut [u8], line: &mut [u8]) -> Result<Option<P
 // A turn: reads what it needs, and prints its line.
 fn take_turn(
     streams: Streams,
-    memory: &mut Memory,
+    refs: &mut [u32],
+    postings: &mut [u32],
+    stopped: &mut [u32],
+    scratch: &mut [i64],
     bytes: &mut [u8],
     line: &mut [u8],
     p: Progress,
 ) -> Result<Option<Progress>, Told>
-    requires { (8196 ≤ length bytes.old) × (line_most ≤ length line.old) × (p.records ≤ p.offset) × (p.offset < limit) }
-    ensures { TurnTaken (store_of memory.old) (store_of memory.new) p result bytes.new line.old line.new }
+    requires { (scratch.old ≡ zero_scratch) × (8196 ≤ length bytes.old) × (line_most ≤ length line.old) × (p.records ≤ p.offset) × (p.offset < limit) }
+    ensures turn_taken { TurnTaken (words refs.old postings.old stopped.old) (words refs.new postings.new stopped.new) p result
+        bytes.new line.old line.new }
+    ensures scratch_after { scratch.new ≡ zero_scratch }
 {
     let n = read_record(streams, bytes)?.end();
-    let t = sheet_card::turn(&bytes[..n], memory, line, 0, p);
+    let t = sheet_card::turn(&bytes[..n], refs, postings, stopped, scratch, line, 0, p);
     print(streams, &line[..t.end])?;
     Ok(t.next)
 }
 
 // The whole card, on the store that a card's meaning begins with.
-fn run(streams: Streams, memory: &mut Memory, bytes: &mut [u8], line: &mut [u8]) -> Result<(), Told>
-    requires { (store_of memory.old ≡ empty_store) × (8196 ≤ length bytes.old) × (line_most ≤ length line.old) }
+fn run(
+    streams: Streams,
+    refs: &mut [u32],
+    postings: &mut [u32],
+    stopped: &mut [u32],
+    scratch: &mut [i64],
+    bytes: &mut [u8],
+    line: &mut [u8],
+) -> Result<(), Told>
+    requires refs_value { (refs.old ≡ empty_store.references) × (postings.old ≡ empty_store.postings) × (stopped.old ≡ empty_store.stopped) }
+    requires scratch_value { (scratch.old ≡ zero_scratch) × (8196 ≤ length bytes.old) × (line_most ≤ length line.old) }
 {
     let mut next = start(streams, bytes, line)?;
     while let Some(p) = next {
-        next = take_turn(streams, memory, bytes, line, p)?;
+        next = take_turn(streams, refs, postings, stopped, scratch, bytes, line, p)?;
     }
     Ok(())
 }
@@ -214,8 +228,19 @@ fn main(rt: HostRuntime) {
         rt,
         was_terminal: rt.stdin().is_terminal(),
     };
-    let mut memory = sheet_card::empty_memory();
+    let mut refs = sheet_card::zero_references();
+    let mut postings = sheet_card::zero_postings();
+    let mut stopped = sheet_card::zero_stopped();
+    let mut scratch = sheet_card::zero_scratch();
     let mut bytes = [0u8; 8196];
     let mut line = [0u8; sheet_text::LINE_MOST];
-    let _ = run(streams, &mut memory, &mut bytes, &mut line);
+    let _ = run(
+        streams,
+        &mut refs,
+        &mut postings,
+        &mut stopped,
+        &mut scratch,
+        &mut bytes,
+        &mut line,
+    );
 }

@@ -5,14 +5,13 @@
 
 ghost use Rattle.std.specs.Prelude.{◌≡◌, false, ◌+◌, ◌≤◌, ◌<◌, length};
 ghost use Rattle.lists.specs.Lists.{none?};
+ghost use Rattle.soundness.specs.Scan.{words};
 ghost use Rattle.sheet_text.specs.Put.{line_most, Put};
-ghost use Rattle.sheet_records.specs.Memory.{store_of};
+ghost use Rattle.sheet_kinds.specs.Kinds.{zero_scratch};
 ghost use Rattle.sheet_card.specs.Ends.{header, end_line, fault_line};
 ghost use Rattle.sheet_card.specs.Sheet.{length_at, whole, empty_store, sheet_of};
 ghost use Rattle.sheet_card.specs.Turns.{advanced, going, last_of, turn_of, body_length, version_fits, limit, start_line, started};
 ghost use Rattle.sheet_card.specs.Held.{Going, remains, has_room, held_sheet};
-
-use sheet_records::Memory;
 
 // How far a card has been read where it goes on: the records so far, and the offset of the next length field.
 #[derive(Clone, Copy)]
@@ -144,20 +143,39 @@ pub fn begin(version: &[u8], line: &mut [u8], at: usize) -> Turned
 }
 
 // One turn on the bytes that were read for it: a record with its length field, or what there was of one. Puts a line behind the first `at` bytes of a
-// lent buffer. A line has at most `line_most` bytes.
-pub fn turn(bytes: &[u8], memory: &mut Memory, line: &mut [u8], at: usize, p: Progress) -> Turned
-    requires { (at + line_most ≤ length line.old) × (p.records ≤ p.offset) × (p.offset < limit) }
-    ensures put { Put line.old line.new at result.end (turn_of (store_of memory.old) p bytes.now).line }
+// lent buffer. A line has at most `line_most` bytes. The scratch has room for 512 votes, and is zeros before and after.
+pub fn turn(
+    bytes: &[u8],
+    refs: &mut [u32],
+    postings: &mut [u32],
+    stopped: &mut [u32],
+    scratch: &mut [i64],
+    line: &mut [u8],
+    at: usize,
+    p: Progress,
+) -> Turned
+    requires line_most_in_bounds { (at + line_most ≤ length line.old) × (p.records ≤ p.offset) × (p.offset < limit) }
+    requires scratch_value { scratch.old ≡ zero_scratch }
+    ensures put { Put line.old line.new at result.end (turn_of (words refs.old postings.old stopped.old) p bytes.now).line }
     ensures end_bound { result.end ≤ at + line_most }
-    ensures store_value { store_of memory.new ≡ (turn_of (store_of memory.old) p bytes.now).store }
-    ensures next_value { result.next ≡ (turn_of (store_of memory.old) p bytes.now).next }
+    ensures stopped_value { words refs.new postings.new stopped.new ≡ (turn_of (words refs.old postings.old stopped.old) p bytes.now).store }
+    ensures next_value { result.next ≡ (turn_of (words refs.old postings.old stopped.old) p bytes.now).next }
+    ensures scratch_after { scratch.new ≡ zero_scratch }
 {
     if !is_whole(bytes) {
         let end = put_last(line, at, p, bytes);
         return Turned { end, next: None };
     }
     let len = length_at(bytes);
-    let end = memory.step(&bytes[4..4 + len], line, at);
+    let end = sheet_records::step(
+        &bytes[4..4 + len],
+        refs,
+        postings,
+        stopped,
+        scratch,
+        line,
+        at,
+    );
     Turned {
         end,
         next: advance(p, len),
@@ -166,16 +184,34 @@ pub fn turn(bytes: &[u8], memory: &mut Memory, line: &mut [u8], at: usize, p: Pr
 
 // ---- the buffers
 
-// "Its buffers begin zeroed"
-pub fn empty_memory() -> Memory
-    ensures { store_of result ≡ empty_store }
+// R 32.
+const REFERENCES: usize = rows::HEAD_WIDTH + 32 * rows::ROW_WIDTH;
+
+pub fn zero_references() -> [u32; REFERENCES]
+    ensures { result ≡ empty_store.references }
 {
-    Memory {
-        references: [0; sheet_records::REFERENCES],
-        postings: [0; sheet_records::POSTINGS],
-        stopped: [0; sheet_records::STOPPED],
-        scratch: [0; sheet_records::SCRATCH],
-    }
+    [0; REFERENCES]
+}
+
+// P 1,024.
+pub fn zero_postings() -> [u32; 3072]
+    ensures { result ≡ empty_store.postings }
+{
+    [0; 3072]
+}
+
+// K 256.
+pub fn zero_stopped() -> [u32; 256]
+    ensures { result ≡ empty_store.stopped }
+{
+    [0; 256]
+}
+
+// Scratch for 512 votes.
+pub fn zero_scratch() -> [i64; 3072]
+    ensures { result ≡ zero_scratch }
+{
+    [0; 3072]
 }
 
 // ---- a card that is held in memory
@@ -183,19 +219,22 @@ pub fn empty_memory() -> Memory
 // The lines of the turns that are left of a card, behind the first `at` bytes of a lent buffer. Yields where they end.
 fn put_turns(
     card: &[u8],
-    memory: &mut Memory,
+    refs: &mut [u32],
+    postings: &mut [u32],
+    stopped: &mut [u32],
+    scratch: &mut [i64],
     out: &mut [u8],
     at: usize,
     start: Option<Progress>,
 ) -> usize
-    requires { Going card.now out.old start at }
-    ensures { Put out.old out.new at result (remains card.now (store_of memory.old) start) }
+    requires { Going card.now out.old start at × (scratch.old ≡ zero_scratch) }
+    ensures { Put out.old out.new at result (remains card.now (words refs.old postings.old stopped.old) start) }
 {
     let mut end = at;
     let mut next = start;
     while let Some(p) = next {
         let from = p.offset as usize;
-        let t = turn(&card[from..], memory, out, end, p);
+        let t = turn(&card[from..], refs, postings, stopped, scratch, out, end, p);
         end = t.end;
         next = t.next;
     }
@@ -218,9 +257,21 @@ pub fn sheet_of(card: &[u8], out: &mut [u8]) -> usize
     if !has_room(card, out) {
         return 0;
     }
-    let mut memory = empty_memory();
+    let mut refs = zero_references();
+    let mut postings = zero_postings();
+    let mut stopped = zero_stopped();
+    let mut scratch = zero_scratch();
     let head = put_header(out);
     let n = card.len().min(1);
     let s = begin(&card[..n], out, head);
-    put_turns(card, &mut memory, out, s.end, s.next)
+    put_turns(
+        card,
+        &mut refs,
+        &mut postings,
+        &mut stopped,
+        &mut scratch,
+        out,
+        s.end,
+        s.next,
+    )
 }

@@ -1,3 +1,2 @@
 -- The step on one record of a card.
 pub mod Step
-pub mod Memory
