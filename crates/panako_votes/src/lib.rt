@@ -60,7 +60,7 @@ fn count_votes(
     ensures ends { result ≤ room → Ends search.entry.posts.now 5 search.entry.count search.entry.hashes.now 4 search.entry.hash_count ends.new }
 {
     let mut v = 0;
-    for i in 0..search.hash_count {
+    'hashes: for i in 0..search.hash_count {
         let span = span_at(search, i);
         let key = search.hashes[4 * i];
         let part = maps::part_at(search.posts, 5, search.count, starts[i] / 5, key);
@@ -68,7 +68,7 @@ fn count_votes(
         for posting in postings {
             v += pair_count(voters, g, span, posting);
             if room < v {
-                return v;
+                break 'hashes;
             }
         }
         ends[i] = starts[i] + part.len() as u32;

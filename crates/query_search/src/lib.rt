@@ -229,20 +229,20 @@ impl<'a, const W: usize, const H: usize> Search<'a, W, H> {
     {
         let last = W * self.count;
         let mut v = 0;
-        for i in 0..self.hash_count {
+        'hashes: for i in 0..self.hash_count {
             let key = self.hashes[H * i];
             let a = starts[i] as usize;
             let n = self.first_under(a, key);
             v += voters.first_votes(self.posts, last, a, n);
             if room < v {
-                return v;
+                break 'hashes;
             }
             let mut e = a + W * n;
             // It steps by postings.
             while is_under(self.posts, last, e, key) {
                 v += voters.votes_at(self.posts, e);
                 if room < v {
-                    return v;
+                    break 'hashes;
                 }
                 e += W;
             }

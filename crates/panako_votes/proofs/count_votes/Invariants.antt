@@ -9,8 +9,8 @@ abbrev pub invariant-loop-posting : goal.invariant-loop-posting
 invariant-loop-posting l =
     Counting l.g l.voters.set l.voters.refs.now l.search.posts.now l.search.count l.search.hashes.now l.room l.i l.span.anchor l.span.end l.part (length l.part / 5) l.v l.posting-index
 
-abbrev pub invariant-loop-i : goal.invariant-loop-i
-invariant-loop-i l =
+abbrev pub invariant-hashes : goal.invariant-hashes
+invariant-hashes l =
     (l.v ≡ length (before l.g l.voters.set l.voters.refs.now l.search.posts.now l.search.count l.search.hashes.now l.i))
     × (l.v ≤ l.room)
     × Ends l.search.posts.now 5 l.search.count l.search.hashes.now 4 l.i l.ends

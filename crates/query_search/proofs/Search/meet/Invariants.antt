@@ -15,8 +15,8 @@ invariant-loop-voters g l =
 abbrev pub decreases-loop-voters : goal.decreases-loop-voters
 decreases-loop-voters g l = g.row.W * l.self.count - l.e
 
-abbrev pub invariant-loop-i : goal.invariant-loop-i
-invariant-loop-i g l =
+abbrev pub invariant-hashes : goal.invariant-hashes
+invariant-hashes g l =
     (l.v ≡ met (voting l.voters.set l.voters.refs.now (entries g.row.W l.self.count l.self.posts.now)) (entries g.row.H l.i l.self.hashes.now))
     × (l.v ≤ l.room)
     × Ends l.self.posts.now g.row.W l.self.count l.self.hashes.now g.row.H l.i l.ends
