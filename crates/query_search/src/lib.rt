@@ -1,10 +1,10 @@
 // Where the postings of each query hash begin and end, whose postings vote, how many do, and the words of the votes.
 #![tactic(auto)]
 
-ghost use Rattle.std.specs.Prelude.{◌≡◌, ℕ, ℤ, List, ◌++◌, ◌+◌, ◌-◌, ◌*◌, ◌/◌, ◌^◌, ◌<◌, ◌≤◌, min, ◌&&◌, length, drop, take, ◌==◌, nat_lt, slice_index};
+ghost use Rattle.std.specs.Prelude.{◌≡◌, ℕ, ℤ, List, ◌++◌, ◌+◌, ◌-◌, ◌*◌, ◌/◌, ◌^◌, ◌<◌, ◌≤◌, min, true, ◌&&◌, length, drop, take, ◌==◌, nat_lt, slice_index};
 ghost use Rattle.lists.specs.Lists.{flat, All};
 ghost use Rattle.lists.specs.Keys.{under};
-ghost use Rattle.lists.specs.Entries.{entries, key_at, key_of};
+ghost use Rattle.lists.specs.Entries.{entries, key_at, key_of, keys_ascend};
 ghost use Rattle.maps.specs.Sums.{when};
 ghost use Rattle.maps.specs.Entries.{first_at};
 ghost use Rattle.query_search.specs.Starts.{Starts, Ends, met, Zeros, Windows, Sought, pivots_below};
@@ -72,6 +72,16 @@ fn is_under(posts: &[u32], last: usize, e: usize, key: u32) -> bool
     ensures { result ≡ nat_lt e last && (slice_index posts.now e == key) }
 {
     e < last && posts[e] == key
+}
+
+// The postings under a key, from word a to before word e, of p postings of w words.
+pub fn part_of(posts: &[u32], w: usize, p: usize, a: u32, e: u32, key: u32) -> &[u32]
+    requires { (1 ≤ w) × (w * p ≤ length posts.now) × (keys_ascend posts.now w p ≡ true) × (a ≡ w * first_at posts.now w p key) × (e ≡ w * first_at posts.now w p (key + 1)) }
+    ensures { result.now ≡ flat (under key_of key (entries w p posts.now)) }
+{
+    let from = a as usize;
+    let to = e as usize;
+    &posts[from..to]
 }
 
 // Whose postings vote in a query: the recordings of a set, 0 for all. The rows of recordings say of what set they are.
@@ -256,9 +266,7 @@ impl<'a, const W: usize, const H: usize> Search<'a, W, H> {
         requires { (a ≡ W * first_at self.posts.now W self.count key) × (e ≡ W * first_at self.posts.now W self.count (key + 1)) }
         ensures { result.now ≡ flat (under key_of key (entries W self.entry.count self.entry.posts.now)) }
     {
-        let from = a as usize;
-        let to = e as usize;
-        &self.posts[from..to]
+        part_of(self.posts, W, self.count, a, e, key)
     }
 }
 
