@@ -25,7 +25,7 @@ pub fn put_entry(posts: &mut [u32], to: usize, hashes: &[u32], v: usize, j: usiz
     let from = v * j;
     posts[to] = hashes[from];
     posts[to + 1] = id;
-    posts[to + 2..to + v + 1].copy_from_slice(&hashes[from + 1..from + v]);
+    slices::copy_words(posts, to + 2, hashes, from + 1, v - 1);
 }
 
 // Whether the keys of the first p entries ascend.

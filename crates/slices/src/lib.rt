@@ -5,20 +5,25 @@ ghost use Rattle.std.specs.Prelude.{◌≡◌, ◌++◌, ◌+◌, ◌-◌, ◌�
 ghost use Rattle.lists.specs.Entries.{zero_from};
 ghost use Rattle.slices.specs.Parts.{pasted, cleared};
 
-// n words of src, from `from` on, go to dst at `to`.
+// n words of src, from `from` on, go to dst at `to`. Here and below by a loop: the library's copies would have the archives for C ask for `memmove`,
+// and a few words, as an entry has, take longer by a call.
 pub fn copy_words(dst: &mut [u32], to: usize, src: &[u32], from: usize, n: usize)
     requires { (to + n ≤ length dst.old) × (from + n ≤ length src.now) }
     ensures { dst.new ≡ pasted dst.old to src.now from n }
 {
-    dst[to..to + n].copy_from_slice(&src[from..from + n]);
+    for j in 0..n {
+        dst[to + j] = src[from + j];
+    }
 }
 
-// n words from `from` on go to `to`, which is no earlier.
+// n words from `from` on go to `to`, which is no earlier: the last one first.
 pub fn move_up(s: &mut [u32], to: usize, from: usize, n: usize)
     requires { (from ≤ to) × (to + n ≤ length s.old) }
     ensures { s.new ≡ pasted s.old to s.old from n }
 {
-    s.copy_within(from..from + n, to);
+    for j in (0..n).rev() {
+        s[to + j] = s[from + j];
+    }
 }
 
 // n words from `from` on go to `to`, which is no later.
@@ -27,7 +32,9 @@ pub fn move_down(s: &mut [u32], to: usize, from: usize, n: usize)
     ensures { s.new ≡ pasted s.old to s.old from n }
 {
     if to != from {
-        s.copy_within(from..from + n, to);
+        for j in 0..n {
+            s[to + j] = s[from + j];
+        }
     }
 }
 
