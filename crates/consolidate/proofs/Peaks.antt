@@ -129,8 +129,11 @@ module _ {d v : ℕ → ℕ} {n tol width : ℕ} {st : State} (S : Swept d v n t
   pub swept-best : Best (window_sum d v n tol) width st.run
   swept-best = rw e at S.best
 
+  pub swept-sums : st.total ≡ sum_to (window_sum d v n tol) width
+  swept-sums = rw e at S.sums
+
 pub answer : (l : List ℤ) (low : ℤ) (n tol width : ℕ) (st : State) (a asum e esum : ℕ) → Placed l low n → 0 < width
-    → Swept (place l low) (votes l) n tol width st → st.at ≡ width
+    → Best (window_sum (place l low) (votes l) n tol) width st.run → st.total ≡ sum_to (window_sum (place l low) (votes l) n tol) width
     → Passed (place l low) (votes l) n 0 (st.run.start - tol) a asum → Passed (place l low) (votes l) n a (st.run.end + tol) e esum
     → record {
       votes = st.run.peak;
@@ -140,9 +143,7 @@ pub answer : (l : List ℤ) (low : ℤ) (n tol width : ℕ) (st : State) (a asum
     }
     ≡ peak_over (window_sum (place l low) (votes l) n tol) (mode_near l n tol) low width
 unfolding peak_over mode_near
-answer l low n tol width st a asum e esum b any S at A E =
-    let B : Best (window_sum (place l low) (votes l) n tol) width st.run = swept-best S at in
-    let total : st.total ≡ sum_to (window_sum (place l low) (votes l) n tol) width = rw at at S.sums in
+answer l low n tol width st a asum e esum b any B total A E =
     let near : mode (λ i. when (within tol (low +ℤ pos st.run.start) (low +ℤ pos (st.run.end - 1)) (offset l i)) (votes l i)) (offset l) n
     ≡ mode (λ i. when (between a e i) (votes l i)) (offset l) n
     = mode-cong (λ i. when (within tol (low +ℤ pos st.run.start) (low +ℤ pos (st.run.end - 1)) (offset l i)) (votes l i)) (λ i. when (between a e i) (votes l i)) (offset l) n
