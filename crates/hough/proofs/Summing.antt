@@ -34,5 +34,8 @@ kept_put s₀ s s' n j v h es K = record {
   rest = ap (drop (4 * n)) es ∙ drop-set-lt (4 * n) s (3 * n + j) v (omega arith) ∙ K.rest;
 }
 
+pub kept_then : (a b c : List ℤ) (n : ℕ) → Kept a b n → Kept b c n → Kept a c n
+kept_then a b c n K L = record { bins = L.bins ∙ K.bins; rest = L.rest ∙ K.rest }
+
 pub roomy-kept : (s₀ s : List ℤ) (n : ℕ) → length s ≡ length s₀ → Kept s₀ s n → Roomy s₀ n → Roomy s n
 roomy-kept s₀ s n len K R = record { bins = subst (λ (l : List ℤ). Bins l n) (sym K.bins) R.bins; room = rw len R.room }
