@@ -1,5 +1,5 @@
 -- A candidate is barred at the first gates, or weighed by its bins, which lie behind its votes.
-use Rattle.std.proofs.Common.{◌≡◌, List, ℕ, ℤ, ◌+◌, ◌*◌, ◌≤◌, None, Bool, length, arith, sym, ap, ◌∙◌, Float}
+use Rattle.std.proofs.Common.{◌≡◌, List, ℕ, ℤ, ◌+◌, ◌*◌, ◌≤◌, None, Bool, length, arith, refl, sym, ap, ◌∙◌, Float}
 use Rattle.maps.proofs.Words.{outside-none}
 use Rattle.gates.specs.Gates.{admits}
 use Rattle.gates.specs.declared.Thresholds.{Thresholds}
@@ -26,8 +26,8 @@ returns-then-not-admitted c =
     let fps = c.f32_from_bits-fps in (
       judged-by q c.args.rate c.args.r_max n fps.result fps.ensures None
           (bar-entry (thresholds_of q) fps.result seen.votes (at_peak seen) (result_of fps.result seen)
-          (entry q c.args.r_max c.args.s.now c.args.a c.args.g (omega (arith, c.requires.group.before, c.requires.group.room)) fps.result c.thresholds.result c.thresholds.ensures
-          c.admitted.result c.admitted.ensures ∙ c.if-not-admitted.true)),
+          (entry q c.args.r_max c.args.s.now c.args.a c.args.g (omega (arith, c.requires.group.before, c.requires.group.room)) fps.result (thresholds_of q) refl
+          c.admitted.result (rw c.thresholds.ensures at c.admitted.ensures) ∙ c.if-not-admitted.true)),
       outside-none c.args.s.now c.args.at (c.args.at + 2 * c.args.g),
     )
 
@@ -49,7 +49,7 @@ returns c =
     let kept = counts-kept s b.new.s c.args.a c.args.g c.args.at end same c.requires.group.before q.q_max b.auto.s (omega (arith, c.requires.group.room)) in (
       judged-by q c.args.rate c.args.r_max n fps.result fps.ensures c.weigh.result
           (goes_on (thresholds_of q) fps.result seen.votes (at_peak seen) (result_of fps.result seen)
-          (entry q c.args.r_max s c.args.a c.args.g (omega (arith, c.requires.group.before, c.requires.group.room)) fps.result c.thresholds.result c.thresholds.ensures
-          c.admitted.result c.admitted.ensures ∙ c.if-not-admitted.false) c.weigh.result (rw kept at c.weigh.ensures)),
+          (entry q c.args.r_max s c.args.a c.args.g (omega (arith, c.requires.group.before, c.requires.group.room)) fps.result (thresholds_of q) refl
+          c.admitted.result (rw c.thresholds.ensures at c.admitted.ensures) ∙ c.if-not-admitted.false) c.weigh.result (rw kept at c.weigh.ensures)),
       same,
     )
