@@ -1,5 +1,5 @@
 -- The peak is the one that is seen; what the calls yield is what is seen of it.
-use Rattle.std.proofs.Common.{◌≡◌, List, ℕ, ℤ, neg_ℤ, drop, ◌≤◌, ◌<◌, ◌^◌, ◌+◌, pos, nat_abs, ◌+ℤ◌, T, arith, rules, refl, sym, ap, ◌∙◌, take, length, map}
+use Rattle.std.proofs.Common.{◌≡◌, List, ℕ, ℤ, neg_ℤ, drop, ◌≤◌, ◌<◌, ◌^◌, ◌+◌, pos, nat_abs, ◌+ℤ◌, T, arith, rules, refl, sym, ap, ◌∙◌, subst, Option, Float, take, length, map}
 use lib.ListN.{length-drop}
 use lib.Seq.{take-take, length-take-le}
 use Rattle.std.specs.Int.Signed.{non_neg}
@@ -12,8 +12,12 @@ use Rattle.consolidate.specs.declared.Peak.{Peak}
 use Rattle.wang_judge.specs.declared.WangQuery.{WangQuery}
 use Rattle.matching.specs.Scores.{wang_prominence, score_of}
 use Rattle.gates.specs.Gates.{result_at}
+use Rattle.gates.specs.Weighing.{Weighs}
+use Rattle.gates.specs.declared.AtPeak.{AtPeak}
+use Rattle.gates.specs.declared.Thresholds.{Thresholds}
+use Rattle.matching.specs.declared.MatchResult.{MatchResult}
 use Rattle.gates.proofs.Passing.{result-same}
-use Rattle.wang_judge.specs.Judge.{distinct, seen_of, at_peak, result_of}
+use Rattle.wang_judge.specs.Judge.{distinct, seen_of, thresholds_of, at_peak, result_of}
 use Rattle.wang_judge.specs.Scheme.{counts_of}
 use Rattle.wang_judge.specs.Candidates.{vote_in, counts_in, seen_in, Counted}
 use Rattle.wang_judge.proofs.Gates.{span-is, peak-found, prominence-found, peak-total, peak-few, centre-up, centre-few}
@@ -34,6 +38,11 @@ unfolding counts_in
 counts-part top s a g h =
     let n : length (take g (drop a s)) ≡ g = length-take-le g (drop a s) (omega (arith, length-drop a s)) in
     rw n (ap (λ (l : List ℤ). counts_of (map (vote_in top) l)) (take-take g g (drop a s) (omega arith)))
+
+-- what the gates ask is what the query asks
+asked : {k : Thresholds} {votes : ℕ} {P S : Float → Type 0} {R : AtPeak → MatchResult → Type 0} {v : Option MatchResult} (q : WangQuery) → Weighs k votes P S R v
+    → k.rate ≡ q.frames_per_sec → k.min_votes ≡ q.cfg.min_votes → k.min_score ≡ q.cfg.min_score → k.min_prominence ≡ q.cfg.min_prominence → Weighs (thresholds_of q) votes P S R v
+asked {k} {votes} {P} {S} {R} {v} q w a b c d = subst (λ (t : Thresholds). Weighs t votes P S R v) (λ i. record { rate = a i; min_votes = b i; min_score = c i; min_prominence = d i }) w
 
 one-is : of_bits binary32 1065353216 ≡ one
 unfolding of_bits
@@ -78,7 +87,7 @@ returns c =
     let s = c.args.s.now in
     let p : Peak = c.peak_of-peak.result in
     let found : p ≡ (seen_in q rmax s c.args.a c.args.g).peak = found_peak c.args.s.now c.args.a c.args.g c.args.at c.args.n c.args.q c.args.r_max c.requires (omega arith) (omega arith) c.tolerance.result c.tolerance.ensures c.peak_of-peak.result c.peak_of-peak.ensures in
-    let e = rw c.thresholds.ensures at c.weigh.ensures in
+    let e = asked q (rw c.thresholds.ensures at c.weigh.ensures) refl (omega arith) refl refl in
     let centre : word p.centre ≡ p.centre = read_is p.centre (search rules) in
     let mode : word p.mode ≡ p.mode = read_is p.mode (search rules) in
     e (at_peak (seen_in q rmax s c.args.a c.args.g)) (result_of c.args.fps (seen_in q rmax s c.args.a c.args.g)) (sym (ap (λ (x : Peak). x.votes) found))
