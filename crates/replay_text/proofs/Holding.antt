@@ -1,5 +1,5 @@
 -- Laws of the loops over a line's words. Assumes nothing.
-use Rattle.std.proofs.Common.{◌≡◌, true, false, List, ℕ, ◌+◌, ◌*◌, ◌%◌, ◌^◌, ◌<◌, ◌≢◌, eqb, leb, length, get_or, take, set, add-one}
+use Rattle.std.proofs.Common.{◌≡◌, Bool, true, false, ◌&&◌, List, ℕ, ◌+◌, ◌*◌, ◌%◌, ◌^◌, ◌<◌, ◌≢◌, eqb, leb, length, get_or, take, set, add-one}
 use lib.Seq.{take-suc-set}
 use borrow.Author.Tests.{ne_eqb}
 use Rattle.lists.specs.Every.{every}
@@ -12,9 +12,9 @@ module _ (s ws : List ℕ) where
   unfolding holds
   differs i l e = rw (every-fail (same_at s ws) (length s) i l (ne_eqb (get_or s i 0) (get_or ws i 0) e))
 
-  pub holds-end : every (length s) (same_at s ws) ≡ true → leb (length ws) (length s) ≡ holds s ws
+  pub holds-all : every (length s) (same_at s ws) ≡ true → leb (length ws) (length s) ≡ holds s ws
   unfolding holds
-  holds-end e = rw e
+  holds-all e = rw e
 
   pub pairs-differ : (i : ℕ) → i < 8 → get_or s i 0 ≢ pair_of ws i → false ≡ holds_pairs s ws
   unfolding holds_pairs
@@ -25,6 +25,10 @@ module _ (s ws : List ℕ) where
   pairs-end e = rw e
 
 module _ (s ws : List ℕ) (i : ℕ) where
+  pub holds-end : {b : Bool} → i ≡ length s → b ≡ every i (same_at s ws) → b && leb (length ws) (length s) ≡ holds s ws
+  unfolding holds
+  holds-end l e = rw (e, l)
+
   pub put-turn : (x : ℕ) → i < length s → take i s ≡ padded_to i ws → x ≡ get_or ws i 0 → take (i + 1) (set s i x) ≡ padded_to (i + 1) ws
   unfolding padded_to
   put-turn x l e h = rw (add-one i, take-suc-set s i x, e, h)

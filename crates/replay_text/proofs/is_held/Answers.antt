@@ -3,7 +3,7 @@ use Rattle.std.proofs.Common.{◌≡◌, sym, ◌∙◌, arith, length}
 use borrow.Author.Tests.{eq-eqb}
 use Rattle.lists.proofs.Every.{every-none, every_more}
 use Rattle.replay_text.specs.Words.{same_at}
-use Rattle.replay_text.proofs.Holding.{differs, holds-end}
+use Rattle.replay_text.proofs.Holding.{differs, holds-all}
 use Rattle.replay_text.proofs.is_held.Goals as goal
 
 pub loop-i-init : goal.loop-i-init
@@ -20,4 +20,4 @@ loop-i-preserved c =
 pub returns : goal.returns
 returns c =
     let e : c.loop-i.i ≡ length c.args.slice.now = omega arith in
-    holds-end c.args.slice.now c.args.words.now (rw e at c.loop-i.invariant)
+    holds-all c.args.slice.now c.args.words.now (rw e at c.loop-i.invariant)
