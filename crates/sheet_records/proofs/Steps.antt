@@ -55,12 +55,19 @@ still-zeros (refused k) s e = e
 
 -- ---- the step
 
--- of a record of a kind
-pub step-of : (m : Words) (bytes ws : List ℕ) (k : Kind) → ws ≡ fields_of bytes → kind_of (get_or bytes 0 0) ≡ some k
-    → line_and_store ws (run wang m (k.call ws)) ≡ step_of m bytes
+-- by the kind byte
+pub step-at : (m : Words) (ws : List ℕ) (b c : ℕ) → b ≡ c → step_by m ws (kind_of c) ≡ step_by m ws (kind_of b)
+step-at m ws b c e = ap (λ (x : ℕ). step_by m ws (kind_of x)) (sym e)
+
+-- by the record's bytes
+pub step-of : (m : Words) (bytes ws : List ℕ) → ws ≡ fields_of bytes → step_by m ws (kind_of (get_or bytes 0 0)) ≡ step_of m bytes
 unfolding step_of
-step-of m bytes ws k e f =
-    ap (λ (l : List ℕ). step_by m l (some k)) e ∙ sym (ap (step_by m (fields_of bytes)) f)
+step-of m bytes ws e = ap (λ (l : List ℕ). step_by m l (kind_of (get_or bytes 0 0))) e
+
+-- of a record of a kind
+pub step-by-kind : (m : Words) (bytes ws : List ℕ) (k : Kind) → ws ≡ fields_of bytes → kind_of (get_or bytes 0 0) ≡ some k
+    → line_and_store ws (run wang m (k.call ws)) ≡ step_of m bytes
+step-by-kind m bytes ws k e f = sym (ap (step_by m ws) f) ∙ step-of m bytes ws e
 
 -- of a byte that no kind has
 pub no_step : (l bytes : List ℕ) (at : ℕ) (m : Words) → kind_of (get_or bytes 0 0) ≡ none → Stepped l l at at m (step_of m bytes)

@@ -3,7 +3,7 @@ use Rattle.std.proofs.Common.{arith, ◌∙◌, length, get_or, length-take-le}
 use Rattle.soundness.specs.Scan.{words}
 use Rattle.sheet_kinds.specs.Bytes.{row_of}
 use Rattle.sheet_kinds.proofs.Lengths.{good-by, good-long, good-words}
-use Rattle.sheet_records.proofs.Steps.{stepped-as, step-of, no_step}
+use Rattle.sheet_records.proofs.Steps.{stepped-as, step-by-kind, no_step}
 use Rattle.sheet_records.proofs.step.Goals as goal
 
 pub read_fields-n-requires : goal.read_fields-n-requires
@@ -25,7 +25,7 @@ pub returns-in-Ok-clause-stepped : goal.returns-in-Ok-clause-stepped
 returns-in-Ok-clause-stepped c =
     let a = c.args in
     stepped-as c.run_record.ensures.stepped
-    (step-of (words a.refs.now a.postings.now a.stopped.now) a.bytes.now _ (row_of c.in-Ok.kind) c.read_fields-n.ensures.words_after c.in-Ok.ensures)
+    (step-by-kind (words a.refs.now a.postings.now a.stopped.now) a.bytes.now _ (row_of c.in-Ok.kind) c.read_fields-n.ensures.words_after c.in-Ok.ensures)
 
 pub returns-in-Err-clause-stepped : goal.returns-in-Err-clause-stepped
 returns-in-Err-clause-stepped c =
