@@ -1,6 +1,8 @@
 // The calls of a line's words, of either index, on what is lent. A line that lacks the call's fields differs, and of a query also a scratch that is then not
 // as it is to be.
-ghost use Rattle.std.specs.Prelude.{◌≤◌};
+ghost use Rattle.std.specs.Prelude.{◌≡◌, ◌≤◌, ◌++◌, MatchOption, pos, take, drop, replicate};
+ghost use Rattle.replay_text.specs.Contents.{put_by, as_said};
+ghost use Rattle.replay_text.specs.Letters.{letter_of};
 
 use crate::Stop;
 use index_calls::Index;
@@ -38,7 +40,10 @@ pub struct Lent {
 
 impl Lent {
     // None where the store has fewer.
-    pub fn new(refs: usize, postings: usize, stopped: usize) -> Option<Lent> {
+    pub fn new(refs: usize, postings: usize, stopped: usize) -> Option<Lent>
+        ensures { MatchOption result (¬ ((refs ≤ 204) × (postings ≤ 2560) × (stopped ≤ 64)))
+            (λ lent. (lent.refs ≡ refs) × (lent.postings ≡ postings) × (lent.stopped ≡ stopped)) }
+    {
         if refs <= REFS && postings <= POSTINGS && stopped <= STOPPED {
             Some(Lent {
                 refs,
@@ -49,6 +54,13 @@ impl Lent {
             None
         }
     }
+}
+
+// The index that is called.
+#[derive(Clone, Copy)]
+pub enum Which {
+    Wang,
+    Panako,
 }
 
 // What is lent to the calls: the first words of the store's slices, the scratch, and the words of the last answer.
@@ -62,7 +74,7 @@ pub struct Store {
 }
 
 // An index whose queries have their settings in a line: rate, scale_min, scale_max, scale_bins, tolerance, min_votes, min_score, min_prominence, set.
-pub trait Replayed: Index {
+trait Replayed: Index {
     fn ask(
         refs: &[u32],
         postings: &[u32],
@@ -282,7 +294,15 @@ fn contents_on(
     postings: &mut [u32; POSTINGS],
     stopped: &mut [u32; STOPPED],
     answer: &[u64; 8],
-) -> bool {
+) -> bool
+    ensures value { result ≡ as_said (letter_of contents) line.now (take lent.refs refs.old) (take lent.postings postings.old)
+        (take lent.stopped stopped.old) answer.now }
+    ensures refs_after { refs.new ≡ put_by 114 (letter_of contents) line.now (take lent.refs refs.old) ++ drop lent.refs refs.old }
+    ensures postings_after { postings.new
+        ≡ put_by 112 (letter_of contents) line.now (take lent.postings postings.old) ++ drop lent.postings postings.old }
+    ensures stopped_after { stopped.new
+        ≡ put_by 107 (letter_of contents) line.now (take lent.stopped stopped.old) ++ drop lent.stopped stopped.old }
+{
     let refs = &mut refs[..lent.refs];
     let postings = &mut postings[..lent.postings];
     let stopped = &mut stopped[..lent.stopped];
@@ -314,7 +334,13 @@ fn call_on<I: Replayed>(
 
 impl Store {
     // All zeros.
-    pub fn new() -> Store {
+    pub fn new() -> Store
+        ensures refs_value { result.refs ≡ replicate 204 0 }
+        ensures postings_value { result.postings ≡ replicate 2560 0 }
+        ensures stopped_value { result.stopped ≡ replicate 64 0 }
+        ensures scratch_value { result.scratch ≡ replicate 6144 (pos 0) }
+        ensures answer_value { result.answer ≡ replicate 8 0 }
+    {
         Store {
             refs: [0; REFS],
             postings: [0; POSTINGS],
@@ -325,7 +351,17 @@ impl Store {
     }
 
     // A line on the lent slices and the answer. Whether it is as the line says.
-    pub fn run_contents(&mut self, contents: Contents, lent: Lent, line: &[u32]) -> bool {
+    pub fn run_contents(&mut self, contents: Contents, lent: Lent, line: &[u32]) -> bool
+        ensures value { result ≡ as_said (letter_of contents) line.now (take lent.refs self.old.refs) (take lent.postings self.old.postings)
+            (take lent.stopped self.old.stopped) self.old.answer }
+        ensures refs_after { self.new.refs
+            ≡ put_by 114 (letter_of contents) line.now (take lent.refs self.old.refs) ++ drop lent.refs self.old.refs }
+        ensures postings_after { self.new.postings
+            ≡ put_by 112 (letter_of contents) line.now (take lent.postings self.old.postings) ++ drop lent.postings self.old.postings }
+        ensures stopped_after { self.new.stopped
+            ≡ put_by 107 (letter_of contents) line.now (take lent.stopped self.old.stopped) ++ drop lent.stopped self.old.stopped }
+        ensures unchanged { (self.new.scratch ≡ self.old.scratch) × (self.new.answer ≡ self.old.answer) }
+    {
         contents_on(
             contents,
             line,
@@ -337,7 +373,7 @@ impl Store {
         )
     }
 
-    pub fn run<I: Replayed>(&mut self, call: Call, lent: Lent, line: &[u32]) -> Result<(), Stop> {
+    fn run<I: Replayed>(&mut self, call: Call, lent: Lent, line: &[u32]) -> Result<(), Stop> {
         call_on::<I>(
             call,
             line,
@@ -348,5 +384,19 @@ impl Store {
             &mut self.scratch,
             &mut self.answer,
         )
+    }
+}
+
+// A call of the index on a store.
+pub fn run(
+    which: Which,
+    store: &mut Store,
+    call: Call,
+    lent: Lent,
+    line: &[u32],
+) -> Result<(), Stop> {
+    match which {
+        Which::Wang => store.run::<WangIndex>(call, lent, line),
+        Which::Panako => store.run::<PanakoIndex>(call, lent, line),
     }
 }

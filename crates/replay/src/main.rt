@@ -18,12 +18,10 @@
 mod calls;
 mod text;
 
-use calls::{Call, Lent, Store};
-use panako::PanakoIndex;
+use calls::{Call, Lent, Store, Which};
 use replay_text::{Contents, UnknownLetter};
 use std::io;
 use std::io::Stdin;
-use wang::WangIndex;
 
 // Lines of at most 4,224 words.
 const WORDS: usize = 4224;
@@ -75,12 +73,6 @@ impl TryFrom<u8> for Letter {
     }
 }
 
-#[derive(Clone, Copy)]
-enum Which {
-    Wang,
-    Panako,
-}
-
 // The index that is called, the store, how much of it is lent, none where it has less than was asked for, and the lines and calls so far.
 #[derive(Drop)]
 struct Replay {
@@ -109,10 +101,7 @@ impl Replay {
     fn call(&mut self, call: Call, line: &[u32]) -> Result<(), Stop> {
         let lent = self.lent.ok_or(Stop::Differs)?;
         self.calls = self.calls.wrapping_add(1);
-        match self.which {
-            Which::Wang => self.store.run::<WangIndex>(call, lent, line),
-            Which::Panako => self.store.run::<PanakoIndex>(call, lent, line),
-        }
+        calls::run(self.which, &mut self.store, call, lent, line)
     }
 
     fn check(&mut self, contents: Contents, line: &[u32]) -> Result<(), Stop> {
