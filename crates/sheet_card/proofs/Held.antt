@@ -43,7 +43,7 @@ module _ (card : List ℕ) (m : Words) (p : Progress) (at : ℕ) (go : GoesOn ca
       → remains card m (Some p) ≡ (turn_of m p here).line ++ remains card (turn_of m p here).store (turn_of m p here).next
   after_turn o t e =
       ap (λ (k : ℕ). turn_lines k m (Some p) here) turns
-      ∙ one-turn fewer m p here o t
+      ∙ one-turn fewer m p here o go.below t
       ∙ ap (λ (l : List ℕ). o.line ++ l) e
       ∙ sym (ap (λ (x : Outcome). x.line ++ remains card x.store x.next) t)
 

@@ -9,7 +9,7 @@ use native.Mathlib.Omega.{arith}
 use lib.Dec.{eqb}
 use lib.ListN.{length, get_or, take, drop, length-take, length-drop}
 use lib.Seq.{take-take, take-add, get_or-take, length-take-le}
-use borrow.Author.Tests.{eqb-true, eqb-false}
+use borrow.Author.Tests.{lt-ltb, le-ltb, eqb-true, eqb-false}
 use Rattle.lists.proofs.Entries.{drop-take}
 use Rattle.lists.proofs.Tests.{test, not-both}
 use Rattle.model.specs.Words.{Words}
@@ -100,14 +100,21 @@ unfolding turn_lines
 no-lines zero m s = refl
 no-lines (suc k) m s = refl
 
-pub one-turn : (k : ℕ) (m : Words) (p : Progress) (s : List ℕ) (o : Outcome) → turn_of m p s ≡ o
+-- at the limit or above it no turn is taken
+pub over-lines : (k : ℕ) (m : Words) (p : Progress) (s : List ℕ) → limit ≤ p.offset → turn_lines k m (Some p) s ≡ []
+unfolding turn_lines
+over-lines zero m p s h = refl
+over-lines (suc k) m p s h = rw (le-ltb p.offset limit h)
+
+pub one-turn : (k : ℕ) (m : Words) (p : Progress) (s : List ℕ) (o : Outcome) → p.offset < limit → turn_of m p s ≡ o
     → turn_lines (suc k) m (Some p) s ≡ o.line ++ turn_lines k o.store o.next (drop (length (read_of s)) s)
 unfolding turn_lines
-one-turn k m p s o e = ap (λ (x : Outcome). x.line ++ turn_lines k x.store x.next (drop (length (read_of s)) s)) (turn-read m p s ∙ e)
+one-turn k m p s o l e =
+    rw (lt-ltb p.offset limit l) (ap (λ (x : Outcome). x.line ++ turn_lines k x.store x.next (drop (length (read_of s)) s)) (turn-read m p s ∙ e))
 
-last_turn : (k : ℕ) (m : Words) (p : Progress) (s l : List ℕ) → turn_of m p s ≡ last m l → turn_lines (suc k) m (Some p) s ≡ l
-last_turn k m p s l e =
-    one-turn k m p s (last m l) e ∙ ap (λ (x : List ℕ). l ++ x) (no-lines k m (drop (length (read_of s)) s)) ∙ append-nil l
+last_turn : (k : ℕ) (m : Words) (p : Progress) (s l : List ℕ) → p.offset < limit → turn_of m p s ≡ last m l → turn_lines (suc k) m (Some p) s ≡ l
+last_turn k m p s l h e =
+    one-turn k m p s (last m l) h e ∙ ap (λ (x : List ℕ). l ++ x) (no-lines k m (drop (length (read_of s)) s)) ∙ append-nil l
 
 -- ---- the records of a card, one by one
 
@@ -154,13 +161,13 @@ rest_more m n r c =
     ∙ ap (λ (k : ℕ). (step_of m r).0 ++ (lines_of (step_of m r).1 c.records ++ last_line k c.fault)) e
 
 -- no whole record stands here
-last-is : (k : ℕ) (m : Words) (p : Progress) (s : List ℕ) → whole s ≡ false → turn_lines (suc k) m (Some p) s ≡ rest m p.records (records_from k p.offset s)
-last-is k m p s h =
+last-is : (k : ℕ) (m : Words) (p : Progress) (s : List ℕ) → p.offset < limit → whole s ≡ false → turn_lines (suc k) m (Some p) s ≡ rest m p.records (records_from k p.offset s)
+last-is k m p s l h =
     test (eqb (length s) 0)
     (λ z. let e = eqb-true (length s) 0 z in
-    last_turn k m p s (end_line p.records) (turn_end m p s e) ∙ sym (ap (λ (c : Card). rest m p.records c) (records-end k p.offset s e) ∙ rest_end m p.records))
+    last_turn k m p s (end_line p.records) l (turn_end m p s e) ∙ sym (ap (λ (c : Card). rest m p.records c) (records-end k p.offset s e) ∙ rest_end m p.records))
     (λ z. let e = eqb-false (length s) 0 z in
-    last_turn k m p s (fault_line p.offset) (turn-fault m p s e h) ∙ sym (ap (λ (c : Card). rest m p.records c) (records-fault k p.offset s e h) ∙ rest-fault m p.records p.offset))
+    last_turn k m p s (fault_line p.offset) l (turn-fault m p s e h) ∙ sym (ap (λ (c : Card). rest m p.records c) (records-fault k p.offset s e h) ∙ rest-fault m p.records p.offset))
 
 -- a whole record, with what is printed behind it
 record_is : (k : ℕ) (m : Words) (p : Progress) (s : List ℕ) → p.offset + length s < limit → Whole s
@@ -171,7 +178,7 @@ record_is k m p s l w ih =
     let h = is_whole s w in
     let n : length (read_of s) ≡ 4 + length_at s = ap (λ (l : List ℕ). length l) (read_whole s w) ∙ length-take-le (4 + length_at s) s w.reaches in
     let g = going-on (advanced p (length_at s)) (omega (arith, w.reaches)) in
-    one-turn (suc k) m p s (taken m p s) (turn-record m p s h)
+    one-turn (suc k) m p s (taken m p s) (omega arith) (turn-record m p s h)
     ∙ ap (λ (q : Option Progress). (step_of m (record_at s)).0 ++ turn_lines (suc k) (step_of m (record_at s)).1 q (drop (length (read_of s)) s)) g
     ∙ ap (λ (j : ℕ). (step_of m (record_at s)).0 ++ turn_lines (suc k) (step_of m (record_at s)).1 (Some (advanced p (length_at s))) (drop j s)) n
     ∙ ap (λ (l : List ℕ). (step_of m (record_at s)).0 ++ l) ih
@@ -179,13 +186,13 @@ record_is k m p s l w ih =
 
 turns-are : (k : ℕ) (m : Words) (p : Progress) (s : List ℕ) → length s ≤ k → p.offset + length s < limit
     → turn_lines (suc k) m (Some p) s ≡ rest m p.records (records_from k p.offset s)
-turns-are zero m p s h l = last-is 0 m p s (sym (whole-none s (omega arith)))
+turns-are zero m p s h l = last-is 0 m p s (omega arith) (sym (whole-none s (omega arith)))
 turns-are (suc k) m p s h l =
     test (whole s)
     (λ y. let w = whole_is s y in let d = length-drop (4 + length_at s) s in
     record_is k m p s l w
     (turns-are k (step_of m (record_at s)).1 (advanced p (length_at s)) (drop (4 + length_at s) s) (omega (arith, d, w.reaches)) (omega (arith, d, w.reaches))))
-    (λ y. last-is (suc k) m p s y)
+    (λ y. last-is (suc k) m p s (omega arith) y)
 
 -- ---- the whole sheet
 

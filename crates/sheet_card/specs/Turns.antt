@@ -72,7 +72,7 @@ turn_lines zero m q s = []
 turn_lines (suc turns) m None s = []
 turn_lines (suc turns) m (Some p) s =
     let t = turn_of m p (read_of s) in
-    t.line ++ turn_lines turns t.store t.next (drop (length (read_of s)) s)
+    cond (ltb p.offset limit) (t.line ++ turn_lines turns t.store t.next (drop (length (read_of s)) s)) []
 
 -- the sheet as the program prints it on a store m: each read yields what stands next in the card s. As many turns as bytes are enough.
 abbrev pub printed : Words → List ℕ → List ℕ
