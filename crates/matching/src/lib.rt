@@ -153,8 +153,10 @@ pub fn score_compare_desc_rank(a: f32, b: f32) -> Ordering
 pub fn match_result_compare_desc(a: MatchResult, b: MatchResult) -> Ordering
     ensures { result ≡ result_compare a b }
 {
-    let by_prominence = score_compare_desc_rank(a.prominence, b.prominence);
-    score_compare_desc_rank(a.score, b.score).then(by_prominence)
+    match score_compare_desc_rank(a.score, b.score) {
+        Ordering::Equal => score_compare_desc_rank(a.prominence, b.prominence),
+        by_score => by_score,
+    }
 }
 
 // Whether a ranks before b: the test of `track_best`.
