@@ -108,7 +108,7 @@ fn lay_row(refs: &mut [u32], i: usize, row: Row)
     requires { head_width + row_width * (i + 1) ≤ length refs.old }
     ensures { take (head_width + row_width * (i + 1)) refs.new ≡ take (head_width + row_width * i) refs.old ++ row.rate ∷ row.rmax ∷ 1 ∷ 0 ∷ row.set ∷ [] }
 {
-    rows::put_row(refs, i, row, true);
+    rows::put_row(refs, i, row, 1);
     rows::put_entry(refs, i, 0);
 }
 

@@ -72,11 +72,11 @@ fn put_recording(refs: &mut [u32], c: Counts, id: usize, row: Row, p: usize, k: 
     let n = c.rows;
     let v = c.vacant;
     if v == 0 {
-        rows::put_row(refs, id, row, true);
+        rows::put_row(refs, id, row, 1);
         rows::put_header(refs, (n + 1) as u32, 0, p as u32, k as u32);
     } else {
         rows::put_entry(refs, v - 1, 0);
-        rows::put_row(refs, id, row, true);
+        rows::put_row(refs, id, row, 1);
         rows::put_header(refs, n as u32, (v - 1) as u32, p as u32, k as u32);
     }
 }

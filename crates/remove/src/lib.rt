@@ -47,7 +47,7 @@ fn vacate(refs: &mut [u32], id: u32, held: u32)
         rmax: 0,
         set: 0,
     };
-    rows::put_row(refs, id as usize, row, false);
+    rows::put_row(refs, id as usize, row, 0);
     rows::put_entry(refs, v as usize, id);
     rows::put_header(refs, n, v + 1, held, k);
 }

@@ -89,15 +89,15 @@ fn put_word(refs: &mut [u32], j: usize, f: usize, x: u32)
     refs[ROW_WIDTH * j + (HEAD_WIDTH + f)] = x;
 }
 
-// Writes row j, of a recording that is live or dead, but for its vacant entry.
+// Writes row j but for its vacant entry.
 #[tactic(auto, unfolding(crate::specs::References::row_put))]
-pub fn put_row(refs: &mut [u32], j: usize, row: Row, live: bool)
+pub fn put_row(refs: &mut [u32], j: usize, row: Row, live: u32)
     requires { head_width + row_width * (j + 1) ≤ length refs.old }
-    ensures { refs.new ≡ row_put refs.old j row.rate row.rmax (cond live 1 0) row.set }
+    ensures { refs.new ≡ row_put refs.old j row.rate row.rmax live row.set }
 {
     put_word(refs, j, AT_RATE, row.rate);
     put_word(refs, j, AT_RMAX, row.rmax);
-    put_word(refs, j, AT_LIVE, u32::from(live));
+    put_word(refs, j, AT_LIVE, live);
     put_word(refs, j, AT_SET, row.set);
 }
 
