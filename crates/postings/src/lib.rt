@@ -1,7 +1,7 @@
 // Entries of w words in a slice, by one word of each: those that are met are counted, looked for and noted, and some are left out.
 #![tactic(auto)]
 
-ghost use Rattle.std.specs.Prelude.{◌≡◌, [], ◌∷◌, ◌+◌, ◌*◌, ◌≤◌, ◌<◌, ◌^◌, length, get_or, eqb};
+ghost use Rattle.std.specs.Prelude.{◌≡◌, [], ◌∷◌, ℕ, ◌+◌, ◌*◌, ◌≤◌, ◌<◌, ◌^◌, length, get_or, eqb};
 ghost use Rattle.lists.specs.Lists.{member};
 ghost use Rattle.lists.specs.Keys.{Ascending};
 ghost use Rattle.postings.specs.Retain.{Within, Until, Listed, Noted, staying, retained};
@@ -91,17 +91,34 @@ impl Entries<'_> {
     pub fn note(self, i: usize, x: u32, list: &mut [u32], c: usize) -> usize
         requires { (i < self.count) × (c ≤ i) × (i < 2 ^ 32) }
         ensures upper_bound { result ≤ i + 1 }
-        ensures noted { Noted self.entry.width self.entry.count self.entry.field x self.entry.words.now i list.old c
-            → Noted self.entry.width self.entry.count self.entry.field x self.entry.words.now (i + 1) list.new result }
+        ensures by_index { (p : ℕ) → i < p → Noted self.entry.width p self.entry.field x self.entry.words.now i list.old c
+            → Noted self.entry.width p self.entry.field x self.entry.words.now (i + 1) list.new result }
     {
-        if self.word(i) != x {
-            return c;
-        }
-        if c < list.len() {
-            list[c] = i as u32;
-        }
-        c + 1
+        note(list, c, self.words, self.width, i, self.field, x)
     }
+}
+
+// Notes entry i in a list, which has c so far, where its word f is x and there is room; how many have been met. The words may end behind word f.
+pub fn note(
+    list: &mut [u32],
+    c: usize,
+    posts: &[u32],
+    w: usize,
+    i: usize,
+    f: usize,
+    x: u32,
+) -> usize
+    requires { (f < w) × (w * i + f < length posts.now) × (c ≤ i) × (i < 2 ^ 32) }
+    ensures upper_bound { result ≤ i + 1 }
+    ensures by_index { (p : ℕ) → i < p → Noted w p f x posts.now i list.old c → Noted w p f x posts.now (i + 1) list.new result }
+{
+    if posts[w * i + f] != x {
+        return c;
+    }
+    if c < list.len() {
+        list[c] = i as u32;
+    }
+    c + 1
 }
 
 // Keeps, in order, those of the first p entries whose word f is none of xs, which ascend strictly. The words that are freed become zero.

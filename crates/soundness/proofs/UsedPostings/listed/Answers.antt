@@ -24,5 +24,5 @@ loop-i-preserved c = (
   ascended-more _ _ _ _ c.loop-i.invariant.0 c.if-key-last.false,
   every_more _ _ c.loop-i.invariant.1 (sym c.is_fine.ensures ∙ c.if-not-is_fine.false),
   c.note-own.ensures.upper_bound,
-  c.note-own.ensures.noted c.loop-i.invariant.3,
+  c.note-own.ensures.by_index c.args.self.count c.loop-i-test.true c.loop-i.invariant.3,
 )
