@@ -1,5 +1,5 @@
 -- What follows of a plan, for the store into which is inserted: the model's answer, and that the recording may be written. Assumes nothing.
-use mathlib.Core.Path.{◌≡◌, refl, sym, ap, ◌∙◌, subst}
+use mathlib.Core.Path.{◌≡◌, sym, ap, ◌∙◌, subst}
 use mathlib.Core.Bool.{Bool, false, cond}
 use mathlib.Core.List.{List, [], ◌∷◌}
 use Prim.Native.Nat.{ℕ, ◌+◌, ◌/◌, ◌≤◌, ◌<◌}
@@ -24,7 +24,8 @@ use Rattle.model.specs.Run.{run_insert}
 use Rattle.postings.specs.Retain.{staying}
 use Rattle.soundness.specs.Scan.{words}
 use Rattle.insert.specs.declared.Plan.{Plan}
-use Rattle.insert.specs.Planned.{taken_in, Found, Planned, PlannedIn}
+use Rattle.insert.specs.declared.NoRoom.{NoRoom}
+use Rattle.insert.specs.Planned.{plan_in, answered, Planned, PlannedIn}
 use Rattle.insert.specs.Writing.{recorded, id_in, postings_in, Writable}
 use Rattle.insert.specs.Insert.{Ready}
 use Rattle.insert.proofs.Planning.{front-whole}
@@ -64,103 +65,71 @@ writable-front {w} {rs} {ps} {ss} {words} {order} {m} {overs} {n} a b W =
     }
 
 -- a plan that left out recording id is one on the store that is left without it: its p postings were ps₀, and k keys are stopped
-pub plan-left : {w limit k : ℕ} (p id : ℕ) (ps₀ rs ps ss : List ℕ) {hashes : List ℕ} {order : List ℤ} {overs : List ℕ} {r : Result Plan Refusal} → entries w (get_or rs 2 0) ps ≡ staying w p 1 (id ∷ []) ps₀ → length ps ≡ length ps₀ → get_or rs 3 0 ≡ k
+pub plan-left : {w limit k : ℕ} (p id : ℕ) (ps₀ rs ps ss : List ℕ) {hashes : List ℕ} {order : List ℤ} {overs : List ℕ} {r : Result Plan NoRoom} → entries w (get_or rs 2 0) ps ≡ staying w p 1 (id ∷ []) ps₀ → length ps ≡ length ps₀ → get_or rs 3 0 ≡ k
     → Planned w limit (length ps₀ / w) (length ss) (staying w p 1 (id ∷ []) ps₀) (take k ss) hashes order overs r → PlannedIn w limit (words rs ps ss) hashes order overs r
 plan-left {w} {limit} {k} p id ps₀ rs ps ss {hashes} {order} {overs} {r} left long stopped P =
     subst (λ (n : ℕ). Planned w limit (n / w) (length ss) (entries w (get_or rs 2 0) ps) (take (get_or rs 3 0) ss) hashes order overs r) (sym long)
     (subst (λ (old : List (List ℕ)). Planned w limit (length ps₀ / w) (length ss) old (take (get_or rs 3 0) ss) hashes order overs r) (sym left)
     (subst (λ (n : ℕ). Planned w limit (length ps₀ / w) (length ss) (staying w p 1 (id ∷ []) ps₀) (take n ss) hashes order overs r) (sym stopped) P))
 
-module _ {w : ℕ} {rs ps ss hashes : List ℕ} {limit set : ℕ} (rate : ℕ) (D : Ready w (words rs ps ss) hashes set) {order : List ℤ} {overs : List ℕ} {r : Result Plan Refusal}
+module _ {w : ℕ} {rs ps ss hashes : List ℕ} {limit set : ℕ} (rate : ℕ) (D : Ready w (words rs ps ss) hashes set) {order : List ℤ} {overs : List ℕ} {r : Result Plan NoRoom}
     (P : PlannedIn w limit (words rs ps ss) hashes order overs r) where
   abbrev m : Words
   m = words rs ps ss
 
-  abbrev count : ℕ
-  count = taken_in w (take (get_or rs 3 0) ss) hashes
-
   -- no room for the postings; none for the keys
   abbrev six : Bool
-  six = ltb (length ps / w) (length (entries w (get_or rs 2 0) ps) + count)
+  six = ltb (length ps / w) (length (entries w (get_or rs 2 0) ps) + (plan_in r).hashes)
 
-  abbrev seven : ℕ → Bool
-  seven n = ltb (length ss) (length (take (get_or rs 3 0) ss) + n)
+  abbrev seven : Bool
+  seven = ltb (length ss) (length (take (get_or rs 3 0) ss) + (plan_in r).keys)
 
   -- a plan that is refused is refused by the model
-  pub plan-refuses : (e : Refusal) → r ≡ Err e → run_insert w (words rs ps ss) limit rate set hashes ≡ (refused (number_of e), words rs ps ss)
-  plan-refuses e q = test six
+  pub plan-refuses : (e : NoRoom) → r ≡ Err e → run_insert w (words rs ps ss) limit rate set hashes ≡ (refused (number_of e.refusal), words rs ps ss)
+  plan-refuses e q =
+      let s : answered r ≡ Err e.refusal = ap answered q in
+      test six
       (λ f.
       let a = P.full f in
-      let z : NoPostings ≡ e = cc in
-      refused-postings w m hashes set D limit rate count refl f ∙ ap (λ (x : Refusal). (refused (number_of x), m)) z)
-      (λ f.
-      let F = P.fits f in
-      test (seven F.0)
+      let z : NoPostings ≡ e.refusal = cc in
+      refused-postings w m hashes set D limit rate (plan_in r).hashes P.many f ∙ ap (λ (x : Refusal). (refused (number_of x), m)) z)
+      (λ f. test seven
       (λ g.
-      let a : r ≡ Err NoStops = F.2 ∙ rw g in
-      let z : NoStops ≡ e = cc in
-      refused-keys w m hashes set D limit rate count refl order overs F.0 F.1 f g ∙ ap (λ (x : Refusal). (refused (number_of x), m)) z)
+      let a : answered r ≡ Err NoStops = P.fits f ∙ rw g in
+      let z : NoStops ≡ e.refusal = cc in
+      refused-keys w m hashes set D limit rate (plan_in r).hashes P.many order overs (plan_in r).keys (P.found f) f g ∙ ap (λ (x : Refusal). (refused (number_of x), m)) z)
       (λ g.
-      let a : r ≡ Ok (record { hashes = count; keys = F.0 }) = F.2 ∙ rw g in
+      let a : answered r ≡ Ok (plan_in r) = P.fits f ∙ rw g in
       cc))
 
-  -- there is room
-  plan-fits : (p : Plan) → r ≡ Ok p → six ≡ false
-  plan-fits p q = test six (λ f. let a = P.full f in cc) (λ f. f)
+  module _ (p : Plan) (q : r ≡ Ok p) where
+    plan-is : plan_in r ≡ p
+    plan-is = ap plan_in q
 
-  module _ (p : Plan) (q : r ≡ Ok p) (fits : six ≡ false) (n : ℕ) (found : Found w limit (entries w (get_or rs 2 0) ps) (take (get_or rs 3 0) ss) hashes order count overs n)
-      (is : r ≡ cond (seven n) (Err NoStops) (Ok (record { hashes = count; keys = n }))) where
-    keys-fit : seven n ≡ false
-    keys-fit = test (seven n)
-        (λ g. let a : r ≡ Err NoStops = is ∙ rw g in cc)
+    accepts : answered r ≡ Ok p
+    accepts = ap answered q
+
+    fits : ltb (length ps / w) (length (entries w (get_or rs 2 0) ps) + (plan_in r).hashes) ≡ false
+    fits = test six (λ f. let a = P.full f in let b = accepts in cc) (λ f. f)
+
+    keys-fit : ltb (length ss) (length (take (get_or rs 3 0) ss) + (plan_in r).keys) ≡ false
+    keys-fit = test seven
+        (λ g. let a : answered r ≡ Err NoStops = P.fits fits ∙ rw g in let b = accepts in cc)
         (λ g. g)
 
-    plan-is : record { hashes = count; keys = n } ≡ p
-    plan-is =
-        let a : r ≡ Ok (record { hashes = count; keys = n }) = is ∙ rw keys-fit in
-        cc
-
-    plan-hashes : p.hashes ≤ length order
-    plan-hashes = subst (λ (p : Plan). p.hashes ≤ length order) plan-is found.order-room
-
-    plan-keys : p.keys ≤ length overs
-    plan-keys = subst (λ (p : Plan). p.keys ≤ length overs) plan-is found.overs-room
-
-    allows : Writable w rs ps ss hashes order p.hashes overs p.keys
-    allows = subst (λ (p : Plan). Writable w rs ps ss hashes order p.hashes overs p.keys) plan-is (writable w m hashes set D limit rate count refl order overs n found fits keys-fit)
-
-    allows-front : Writable w rs ps ss hashes (take p.hashes order) (length (take p.hashes order)) (take p.keys overs) (length (take p.keys overs))
-    allows-front = writable-front plan-hashes plan-keys allows
-
-    stores-front : (id : ℕ) (rs' ps' ss' : List ℕ) → id ≡ id_in rs
-        → rs' ≡ recorded rs (get_or rs 0 0) (get_or rs 1 0) (id_in rs) (canonical rate) (cond (has_rmax w) (largest_anchor (hashes_of w hashes)) 0) set
-        (length (postings_in w rs ps hashes (take p.hashes order) (length (take p.hashes order)) (take p.keys overs) (length (take p.keys overs)))) (get_or rs 3 0 + length (take p.keys overs))
-        → ps' ≡ padded (length ps) (flat (postings_in w rs ps hashes (take p.hashes order) (length (take p.hashes order)) (take p.keys overs) (length (take p.keys overs))))
-        → ss' ≡ padded (length ss) (place_all (λ y. y) (take (length (take p.keys overs)) (take p.keys overs)) (take (get_or rs 3 0) ss))
-        → (stored id, words rs' ps' ss') ≡ run_insert w (words rs ps ss) limit rate set hashes
-    stores-front id rs' ps' ss' a b c d =
-        subst (λ (p : Plan). (id : ℕ) (rs' ps' ss' : List ℕ) → id ≡ id_in rs
-        → rs' ≡ recorded rs (get_or rs 0 0) (get_or rs 1 0) (id_in rs) (canonical rate) (cond (has_rmax w) (largest_anchor (hashes_of w hashes)) 0) set
-        (length (postings_in w rs ps hashes order p.hashes overs p.keys)) (get_or rs 3 0 + p.keys)
-        → ps' ≡ padded (length ps) (flat (postings_in w rs ps hashes order p.hashes overs p.keys))
-        → ss' ≡ padded (length ss) (place_all (λ y. y) (take p.keys overs) (take (get_or rs 3 0) ss))
-        → (stored id, words rs' ps' ss') ≡ run_insert w (words rs ps ss) limit rate set hashes)
-        plan-is (stored_is w m hashes set D limit rate count refl order overs n found fits keys-fit)
-        id rs' ps' ss' a
-        (rw (front-whole p.hashes order plan-hashes, front-whole p.keys overs plan-keys, length-take-le p.keys overs plan-keys) at b)
-        (rw (front-whole p.hashes order plan-hashes, front-whole p.keys overs plan-keys) at c)
-        (rw (front-whole p.keys overs plan-keys) at d)
-
-  module _ (p : Plan) (q : r ≡ Ok p) where
-    -- one that is not may be written ..
-    pub plan-allows : Writable w rs ps ss hashes (take p.hashes order) (length (take p.hashes order)) (take p.keys overs) (length (take p.keys overs))
-    plan-allows = let f = plan-fits p q in let F = P.fits f in allows-front p q f F.0 F.1 F.2
-
     pub plan-order : p.hashes ≤ length order
-    plan-order = let f = plan-fits p q in let F = P.fits f in plan-hashes p q f F.0 F.1 F.2
+    plan-order = subst (λ (p : Plan). p.hashes ≤ length order) plan-is (P.found fits).order-room
 
     pub plan-overs : p.keys ≤ length overs
-    plan-overs = let f = plan-fits p q in let F = P.fits f in plan-keys p q f F.0 F.1 F.2
+    plan-overs = subst (λ (p : Plan). p.keys ≤ length overs) plan-is (P.found fits).overs-room
+
+    allows : Writable w rs ps ss hashes order p.hashes overs p.keys
+    allows = subst (λ (p : Plan). Writable w rs ps ss hashes order p.hashes overs p.keys) plan-is
+        (writable w m hashes set D limit rate (plan_in r).hashes P.many order overs (plan_in r).keys (P.found fits) fits keys-fit)
+
+    -- one that is not may be written ..
+    pub plan-allows : Writable w rs ps ss hashes (take p.hashes order) (length (take p.hashes order)) (take p.keys overs) (length (take p.keys overs))
+    plan-allows = writable-front plan-order plan-overs allows
 
     -- .. and what is then left is the model's
     pub plan-stores : (id : ℕ) (rs' ps' ss' : List ℕ) → id ≡ id_in rs
@@ -169,4 +138,15 @@ module _ {w : ℕ} {rs ps ss hashes : List ℕ} {limit set : ℕ} (rate : ℕ) (
         → ps' ≡ padded (length ps) (flat (postings_in w rs ps hashes (take p.hashes order) (length (take p.hashes order)) (take p.keys overs) (length (take p.keys overs))))
         → ss' ≡ padded (length ss) (place_all (λ y. y) (take (length (take p.keys overs)) (take p.keys overs)) (take (get_or rs 3 0) ss))
         → (stored id, words rs' ps' ss') ≡ run_insert w (words rs ps ss) limit rate set hashes
-    plan-stores = let f = plan-fits p q in let F = P.fits f in stores-front p q f F.0 F.1 F.2
+    plan-stores id rs' ps' ss' a b c d =
+        subst (λ (p : Plan). (id : ℕ) (rs' ps' ss' : List ℕ) → id ≡ id_in rs
+        → rs' ≡ recorded rs (get_or rs 0 0) (get_or rs 1 0) (id_in rs) (canonical rate) (cond (has_rmax w) (largest_anchor (hashes_of w hashes)) 0) set
+        (length (postings_in w rs ps hashes order p.hashes overs p.keys)) (get_or rs 3 0 + p.keys)
+        → ps' ≡ padded (length ps) (flat (postings_in w rs ps hashes order p.hashes overs p.keys))
+        → ss' ≡ padded (length ss) (place_all (λ y. y) (take p.keys overs) (take (get_or rs 3 0) ss))
+        → (stored id, words rs' ps' ss') ≡ run_insert w (words rs ps ss) limit rate set hashes)
+        plan-is (stored_is w m hashes set D limit rate (plan_in r).hashes P.many order overs (plan_in r).keys (P.found fits) fits keys-fit)
+        id rs' ps' ss' a
+        (rw (front-whole p.hashes order plan-order, front-whole p.keys overs plan-overs, length-take-le p.keys overs plan-overs) at b)
+        (rw (front-whole p.hashes order plan-order, front-whole p.keys overs plan-overs) at c)
+        (rw (front-whole p.keys overs plan-overs) at d)

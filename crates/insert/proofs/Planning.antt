@@ -1,6 +1,6 @@
 -- What `plan_insertion` finds, from what its functions say. Assumes nothing.
-use mathlib.Core.Path.{◌≡◌, refl, sym, ap, ◌∙◌, subst}
-use mathlib.Core.Bool.{true, false, cond}
+use mathlib.Core.Path.{◌≡◌, refl, sym, ap, ◌∙◌}
+use mathlib.Core.Bool.{true, false}
 use mathlib.Core.List.{List, [], ◌∷◌}
 use Prim.Native.Nat.{ℕ, zero, suc, ◌+◌, ◌-◌, ◌/◌, ◌^◌, ◌≤◌, ◌<◌}
 use native.Mathlib.Omega.{arith}
@@ -18,10 +18,10 @@ use Rattle.postings.specs.Retain.{staying}
 use Rattle.insert_merge.specs.Order.{up_to, unstopped_at, taken, packs, ordered, keys_in, other_keys, ByKey, OverKeys}
 use Rattle.insert_merge.proofs.Ordered.{length-ordered, sort-packs, is-by-key}
 use Rattle.std.specs.Prelude.{Result, Ok, Err}
-use Rattle.refusals.specs.declared.Refusal.{Refusal}
 use Rattle.refusals.specs.declared.Refusal.TheVariants.{NoPostings, NoStops}
 use Rattle.insert.specs.declared.Plan.{Plan}
-use Rattle.insert.specs.Planned.{Plannable, taken_in, Found, Planned}
+use Rattle.insert.specs.declared.NoRoom.{NoRoom}
+use Rattle.insert.specs.Planned.{Plannable, Found, Planned}
 
 -- the first k of a list, cut off, are the first k again
 pub front-whole : {A : Type 0} (k : ℕ) (l : List A) → k ≤ length l → take (length (take k l)) (take k l) ≡ take k l
@@ -43,8 +43,8 @@ module _ {w p k : ℕ} {ps ss hashes : List ℕ} (A : Plannable w p k ps ss hash
 
   -- there is no room for the postings
   pub planned-full : {limit : ℕ} (id : ℕ) {order : List ℤ} {overs : List ℕ} → ltb (length ps / w) (length (staying w p 1 (id ∷ []) ps) + m) ≡ true
-      → Planned w limit (length ps / w) (length ss) (staying w p 1 (id ∷ []) ps) (take k ss) hashes order overs (Err NoPostings)
-  planned-full id e = record { full = λ _. refl; fits = λ q. absurd (not-both (rw many at e) q) }
+      → Planned w limit (length ps / w) (length ss) (staying w p 1 (id ∷ []) ps) (take k ss) hashes order overs (Err (record { refusal = NoPostings; plan = record { hashes = m; keys = 0 } }))
+  planned-full id e = record { many = many; full = λ _. refl; fits = λ q. absurd (not-both e q); found = λ q. absurd (not-both e q) }
 
   module _ (order₀ order : List ℤ) (held : take m order₀ ≡ packs (w - 1) hashes (taken (w - 1) hashes (take k ss) (hash_count w hashes)))
       (sorted : take m order ≡ sort_z (take m order₀)) (long : 16384 ≤ length order) where
@@ -71,18 +71,14 @@ module _ {w p k : ℕ} {ps ss hashes : List ℕ} (A : Plannable w p k ps ss hash
     module _ {limit : ℕ} (id : ℕ) (overs : List ℕ) {n : ℕ} (fewer : n ≤ length (take m order)) (size : 8192 ≤ length overs)
         (over : OverKeys limit (other_keys w p id ps) (keys_in (length (take m order)) (take m order)) (take n overs))
         (e : ltb (length ps / w) (length (staying w p 1 (id ∷ []) ps) + m) ≡ false) where
-      abbrev Is : Result Plan Refusal → Type 0
+      abbrev Is : Result Plan NoRoom → Type 0
       Is r = Planned w limit (length ps / w) (length ss) (staying w p 1 (id ∷ []) ps) (take k ss) hashes order overs r
 
-      found : Found w limit (staying w p 1 (id ∷ []) ps) (take k ss) hashes order (taken_in w (take k ss) hashes) overs n
-      found = subst (λ (a : ℕ). Found w limit (staying w p 1 (id ∷ []) ps) (take k ss) hashes order a overs n) many
-          record { in_order = in_order; above = rw (front-whole m order (omega (arith, few-new))) at over; order-room = omega (arith, few-new); overs-room = omega (arith, few-new, length-take-le m order (omega (arith, few-new))) }
+      found : Found w limit (staying w p 1 (id ∷ []) ps) (take k ss) hashes order m overs n
+      found = record { in_order = in_order; above = rw (front-whole m order (omega (arith, few-new))) at over; order-room = omega (arith, few-new); overs-room = omega (arith, few-new, length-take-le m order (omega (arith, few-new))) }
 
-      planned : (r : Result Plan Refusal) → r ≡ cond (ltb (length ss) (k + n)) (Err NoStops) (Ok (record { hashes = taken_in w (take k ss) hashes; keys = n })) → Is r
-      planned r is = record { full = λ q. absurd (not-both q (rw many at e)); fits = λ _. (n, found, rw (length-take-le k ss A.stopped) is) }
-
-      pub planned-keys : length ss < k + n → Is (Err NoStops)
-      planned-keys h = planned (Err NoStops) (rw (lt-ltb (length ss) (k + n) h))
+      pub planned-keys : length ss < k + n → Is (Err (record { refusal = NoStops; plan = record { hashes = m; keys = n } }))
+      planned-keys h = record { many = many; full = λ q. absurd (not-both q e); fits = λ _. rw (length-take-le k ss A.stopped, lt-ltb (length ss) (k + n) h); found = λ _. found }
 
       pub planned-found : k + n ≤ length ss → Is (Ok (record { hashes = m; keys = n }))
-      planned-found h = planned (Ok (record { hashes = m; keys = n })) (rw (le-ltb (length ss) (k + n) h, many))
+      planned-found h = record { many = many; full = λ q. absurd (not-both q e); fits = λ _. rw (length-take-le k ss A.stopped, le-ltb (length ss) (k + n) h); found = λ _. found }

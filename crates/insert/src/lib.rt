@@ -88,6 +88,21 @@ pub struct Plan {
     pub keys: usize,
 }
 
+// A plan for which there is no room, and why. Where the postings have none, no key has been looked at, and `keys` is 0.
+#[derive(Clone, Copy)]
+pub struct NoRoom {
+    pub refusal: Refusal,
+    pub plan: Plan,
+}
+
+impl From<NoRoom> for Refusal {
+    ghost from_gives = { λ n r. r ≡ n.refusal };
+
+    fn from(n: NoRoom) -> Refusal {
+        n.refusal
+    }
+}
+
 // Writes a recording that is accepted: the hashes at the places in order, and the keys in overs are stopped; its id.
 pub fn write_recording(
     refs: &mut [u32],
@@ -138,7 +153,7 @@ fn lacks_room(posts: &[u32], w: usize, others: usize, m: usize) -> bool
 }
 
 // Plans an insertion into a store in which so much is in use, less the postings of recording id, beside which there are so many others: whether
-// there is room, the hashes that are not skipped, in order, and the keys that it stops.
+// there is room, the hashes that are not skipped, in order, and the keys that it stops. These are found where there is no room for the keys, too.
 pub fn plan_insertion(
     order: &mut [i64],
     overs: &mut [u32],
@@ -150,7 +165,7 @@ pub fn plan_insertion(
     id: u32,
     others: usize,
     limit: u32,
-) -> Result<Plan, Refusal>
+) -> Result<Plan, NoRoom>
     requires plannable { Plannable w c.postings c.stopped posts.now stops.now hashes.now }
     requires others_value { others ≡ length (staying w c.postings 1 (id ∷ []) posts.now) }
     requires in_bounds { (16384 ≤ length order.old) × (8192 ≤ length overs.old) }
@@ -160,14 +175,21 @@ pub fn plan_insertion(
     let k = c.stopped;
     let m = insert_merge::collect(order, hashes, w - 1, &stops[..k]);
     if lacks_room(posts, w, others, m) {
-        return Err(Refusal::NoPostings);
+        return Err(NoRoom {
+            refusal: Refusal::NoPostings,
+            plan: Plan { hashes: m, keys: 0 },
+        });
     }
     sorting::sort_words(order, m);
     let n = insert_merge::over_keys(overs, &order[..m], posts, w, c.postings, limit, id);
+    let plan = Plan { hashes: m, keys: n };
     if stops.len() < k + n {
-        return Err(Refusal::NoStops);
+        return Err(NoRoom {
+            refusal: Refusal::NoStops,
+            plan,
+        });
     }
-    Ok(Plan { hashes: m, keys: n })
+    Ok(plan)
 }
 
 // An insertion into a sound store that has a row left, of a fingerprint that is well formed, under a set that is allowed.

@@ -30,9 +30,9 @@ use Rattle.soundness.specs.Scan.{words}
 use Rattle.remove.specs.Erasing.{vacated, others, others_left, Erasable}
 use Rattle.remove.proofs.Runs.{remove-live, erasable, header-there}
 use Rattle.std.specs.Prelude.{Result, Ok, Err}
-use Rattle.refusals.specs.declared.Refusal.{Refusal}
 use Rattle.refusals.specs.Numbers.{number_of}
 use Rattle.insert.specs.declared.Plan.{Plan}
+use Rattle.insert.specs.declared.NoRoom.{NoRoom}
 use Rattle.insert.specs.Planned.{Plannable, Planned, PlannedIn}
 use Rattle.insert.specs.Writing.{recorded, id_in, postings_in, Writable}
 use Rattle.insert.specs.Insert.{no_row, Ready}
@@ -116,16 +116,16 @@ module _ (w : ℕ) (rs ps ss hashes : List ℕ) (id : ℕ) (D : Replaceable w (w
 
     -- ---- the plan that left the old take out
 
-    module _ (limit rate : ℕ) (h : Counts) (c : CountsOf rs h) (order : List ℤ) (overs : List ℕ) (r : Result Plan Refusal)
+    module _ (limit rate : ℕ) (h : Counts) (c : CountsOf rs h) (order : List ℤ) (overs : List ℕ) (r : Result Plan NoRoom)
         (P : Planned w limit (length ps / w) (length ss) (staying w h.postings 1 (id ∷ []) ps) (take h.stopped ss) hashes order overs r) where
       planned : PlannedIn w limit (words rs' ps' ss) hashes order overs r
       planned =
           plan-left h.postings id ps rs' ps' ss
           (entries-left ∙ ap (λ (p : ℕ). staying w p 1 (id ∷ []) ps) (sym c.postings)) (ap length ep ∙ length_retained w (get_or rs 2 0) 1 (id ∷ []) ps may-erase.held) (stopped-left ∙ sym c.stopped) P
 
-      pub swap-refused : (e : Refusal) → r ≡ Err e → run_replace w (words rs ps ss) id limit rate hashes ≡ (refused (number_of e), words rs ps ss)
+      pub swap-refused : (e : NoRoom) → r ≡ Err e → run_replace w (words rs ps ss) id limit rate hashes ≡ (refused (number_of e.refusal), words rs ps ss)
       swap-refused e q =
-          replace-refused w w2 m (words rs' ps' ss) id limit rate hashes gone (number_of e)
+          replace-refused w w2 m (words rs' ps' ss) id limit rate hashes gone (number_of e.refusal)
           (ap (λ (s : ℕ). (run_insert w (words rs' ps' ss) limit rate s hashes).0) (sym set_word)
           ∙ ap (λ (o : Answer × Words). o.0) (plan-refuses rate ready planned e q))
 
