@@ -1,5 +1,5 @@
 -- Laws of the loops over a line's words. Assumes nothing.
-use Rattle.std.proofs.Common.{◌≡◌, Bool, true, false, ◌&&◌, List, ℕ, ◌+◌, ◌*◌, ◌%◌, ◌^◌, ◌<◌, ◌≢◌, eqb, leb, length, get_or, take, set, add-one}
+use Rattle.std.proofs.Common.{◌≡◌, refl, sym, Bool, true, false, ◌&&◌, List, ℕ, ◌+◌, ◌*◌, ◌%◌, ◌^◌, ◌<◌, ◌≢◌, eqb, leb, length, get_or, take, set, add-one}
 use lib.Seq.{take-suc-set}
 use borrow.Author.Tests.{ne_eqb}
 use Rattle.lists.specs.Every.{every}
@@ -11,10 +11,6 @@ module _ (s ws : List ℕ) where
   pub differs : (i : ℕ) → i < length s → get_or s i 0 ≢ get_or ws i 0 → false ≡ holds s ws
   unfolding holds
   differs i l e = rw (every-fail (same_at s ws) (length s) i l (ne_eqb (get_or s i 0) (get_or ws i 0) e))
-
-  pub holds-all : every (length s) (same_at s ws) ≡ true → leb (length ws) (length s) ≡ holds s ws
-  unfolding holds
-  holds-all e = rw e
 
   pub pairs-differ : (i : ℕ) → i < 8 → get_or s i 0 ≢ pair_of ws i → false ≡ holds_pairs s ws
   unfolding holds_pairs
@@ -29,6 +25,11 @@ module _ (s ws : List ℕ) (i : ℕ) where
   unfolding holds
   holds-end l e = rw (e, l)
 
+-- where each word is the same
+pub holds-all : (s ws : List ℕ) → every (length s) (same_at s ws) ≡ true → leb (length ws) (length s) ≡ holds s ws
+holds-all s ws e = holds-end s ws (length s) refl (sym e)
+
+module _ (s ws : List ℕ) (i : ℕ) where
   pub put-turn : (x : ℕ) → i < length s → take i s ≡ padded_to i ws → x ≡ get_or ws i 0 → take (i + 1) (set s i x) ≡ padded_to (i + 1) ws
   unfolding padded_to
   put-turn x l e h = rw (add-one i, take-suc-set s i x, e, h)
